@@ -1,0 +1,3 @@
+pub mod Unit
+pub mod Proving
+pub mod OneAnswer

@@ -1,0 +1,14 @@
+-- That a promise fits one answer alone.
+use Prim.Native.Nat.{ℕ}
+use mathlib.Core.Path.{_≡_}
+use mathlib.Core.List.{List}
+use contract.Lifetimes.{Lfts}
+use denote.Triple.Clauses.{AtExit}
+use borrow.Fn.Kinds.{PK, RK, Out, Dens, resT, endedOf}
+
+-- A promise is a function's whole `ensures`, as Rattle reads it: a claim on the arguments, the answer and what was lent, at exit.
+-- Whatever two answers meet it on the same arguments, they are one.
+abbrev pub OneAnswer : {n : ℕ} (ps : List (PK n)) (r : RK n) → Out n ps r → Type 0
+OneAnswer {n} ps r Promise =
+    (κs : Lfts n) (arguments : Dens κs ps) (x y : resT r κs .Denot) (e f : AtExit (endedOf n ps r) κs) →
+    Promise κs arguments x e → Promise κs arguments y f → x ≡ y
