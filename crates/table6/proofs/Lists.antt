@@ -1,0 +1,36 @@
+-- A list as the values of a function, and a table as a `match` on a number: its arms are a list's elements, its last arm is for all the rest. Assumes nothing.
+use mathlib.Core.Path.{_≡_, refl, sym, _∙_, ap}
+use mathlib.Core.List.{List, [], _∷_}
+use mathlib.Core.Logic.{⊎-elim}
+use Prim.Native.Nat.{ℕ, zero, suc, _+_, _<_, _≤_}
+use native.Mathlib.Omega.{arith}
+use native.Mathlib.Nat.{add-zero, zero-add, add-suc, suc-add, le-of-suc-le-suc, not-suc-le-zero, eq-or-lt-of-le}
+use lib.ListN.{length, getD}
+use Rattle.table6.specs.Stored.{from}
+
+pub getD-from {ℓ} : {A : Type ℓ} (f : ℕ → A) (n i k : ℕ) (d : A) → k < n → getD (from f i n) k d ≡ f (i + k)
+getD-from f zero i k d h = absurd (not-suc-le-zero h)
+getD-from f (suc n) i zero d h = ap f (sym (add-zero i))
+getD-from f (suc n) i (suc k) d h = getD-from f n (suc i) k d (le-of-suc-le-suc h) ∙ ap f (suc-add i k ∙ sym (add-suc i k))
+
+-- two functions that one computed test finds equal below n
+pub alike {ℓ} : {A : Type ℓ} (f g : ℕ → A) (n : ℕ) (d : A) → from f 0 n ≡ from g 0 n → (k : ℕ) → k < n → f k ≡ g k
+alike f g n d e k h =
+    ap f (sym (zero-add k)) ∙ sym (getD-from f n 0 k d h) ∙ ap (λ l. getD l k d) e ∙ getD-from g n 0 k d h ∙ ap g (zero-add k)
+
+-- none of the numbers below k
+abbrev pub Missed : ℕ → ℕ → Type 0
+Missed i zero = Unit {0}
+Missed i (suc k) = Missed i k × (i ≡ k → ⊥)
+
+missed : (n i : ℕ) → Missed i n → n ≤ i
+missed zero i m = omega arith
+missed (suc n) i m = ⊎-elim (λ e. absurd (m .1 (sym e))) (λ l. l) (eq-or-lt-of-le (missed n i (m .0)))
+
+pub past {ℓ} : {A : Type ℓ} (xs : List A) (i : ℕ) (d : A) → length xs ≤ i → d ≡ getD xs i d
+past [] i d h = refl
+past (x ∷ xs) zero d h = absurd (not-suc-le-zero h)
+past (x ∷ xs) (suc i) d h = past xs i d (le-of-suc-le-suc h)
+
+pub beyond {ℓ} : {A : Type ℓ} (xs : List A) (n i : ℕ) (d : A) → length xs ≡ n → Missed i n → d ≡ getD xs i d
+beyond xs n i d e m = past xs i d (rw e (missed n i m))

@@ -1,0 +1,216 @@
+-- The stored table decodes to Table 6: one computed test over all cells, and one law that turns it into the rule at each. Assumes nothing.
+use mathlib.Core.Path.{_≡_, refl, sym, ap, _∙_}
+use mathlib.Core.Bool.{Bool, true, false, cond}
+use mathlib.Core.List.{List, [], _∷_, _++_, append-assoc}
+use mathlib.Core.Logic.{⊎-elim}
+use Prim.Native.Nat.{ℕ, zero, suc, _+_, _*_, _<_, _≤_}
+use native.Mathlib.Omega.{arith}
+use lib.Dec.{eqb, ltb, leb}
+use lib.ListN.{getD, length}
+use borrow.Author.Tests.{eqb-true, ltb-true, ltb-false}
+use Rattle.table6.specs.declared.State.{State}
+use Rattle.table6.specs.declared.Facts.{Facts}
+use Rattle.table6.specs.Cell.{Act, Cond, LPO=0, LPO=0&INS=0, LPO=0&INS=1, UU=EM-or-NM, Source=User, BSNT-available, MU>4, holds, Cell, Illegal, to, _⨟_, IF_THEN_ELSE_, Row, cell, Choice, illegal, does, after, chosen}
+use Rattle.table6.specs.Summary.{Summed, refused, summed, sum, over}
+use Rattle.table6.specs.Table6.{AAL-MESSAGE-FOR-TRANSMISSION-request, AAL-EMERGENCY-request, AAL-EMERGENCY-CEASES-request, AAL-STOP-request, AAL-START-request, AAL-RETRIEVE-BSNT-request, AAL-RETRIEVAL-REQUEST-AND-FSNC-request, AAL-FLUSH-BUFFERS-request, AAL-CONTINUE-request, AA-ESTABLISH-indication-with-EM-NM, AA-ESTABLISH-indication-with-others, AA-ESTABLISH-confirm-with-EM-NM, AA-ESTABLISH-confirm-with-others, AA-RELEASE-indication-from-User, AA-RELEASE-indication-from-SSCOP, AA-RELEASE-confirm, AA-DATA-indication-with-INS, AA-DATA-indication-with-NM, AA-DATA-indication-with-other, AA-DATA-indication-with-MU>4, AA-RESYNC-indication, AA-RECOVER-indication, AA-UNITDATA-indication, AA-RETRIEVE-indication, AA-RETRIEVE-COMPLETE-indication, MAAL-PROVING-UNSUCCESSFUL-response, MAAL-RELEASE-request, MAAL-LOCAL-PROCESSOR-OUTAGE-request, MAAL-LOCAL-PROCESSOR-RECOVERED-request, MAAL-FORCE-PROVING-request, MAAL-FORCE-EMERGENCY-request, MAAL-CLEAR-FORCE-MODES-request, Local-Congestion, Local-Congestion-Ceased, T1-expires, T2-expires, T3-expires-and-C1>0, T3-expires-and-C1=0}
+use Rattle.table6.specs.Rows.{Printed, one, two, printed, Heading, rows, nowhere, heading, meets, met}
+use Rattle.table6.specs.Stored.{place, codes, codeAt, Ask, gives, asks, follow, questions, among, answer, changeAt, saysAt, changed, said, stateOp, from}
+use Rattle.table6.proofs.Lists.{alike, past}
+
+-- Conditions by number, as the ways below have them; 0 always holds.
+abbrev number : Cond → ℕ
+number LPO=0 = 1
+number LPO=0&INS=0 = 2
+number LPO=0&INS=1 = 3
+number UU=EM-or-NM = 4
+number Source=User = 5
+number BSNT-available = 6
+number MU>4 = 7
+
+abbrev test : ℕ → Facts → Bool
+test q f =
+    getD
+    (true
+    ∷ holds LPO=0 f
+    ∷ holds LPO=0&INS=0 f
+    ∷ holds LPO=0&INS=1 f
+    ∷ holds UU=EM-or-NM f
+    ∷ holds Source=User f
+    ∷ holds BSNT-available f
+    ∷ holds MU>4 f
+    ∷ [])
+    q true
+
+numbered : (q : Cond) (f : Facts) → test (number q) f ≡ holds q f
+numbered LPO=0 f = refl
+numbered LPO=0&INS=0 f = refl
+numbered LPO=0&INS=1 f = refl
+numbered UU=EM-or-NM f = refl
+numbered Source=User f = refl
+numbered BSNT-available f = refl
+numbered MU>4 f = refl
+
+-- A way to an outcome: there at once, or by a condition.
+data Way : Type 0 where
+  only : Summed → Way
+  when : ℕ → Way → Way → Way
+
+abbrev taken : Way → Facts → Summed
+taken (only d) f = d
+taken (when q w v) f = cond (test q f) (taken w f) (taken v f)
+
+-- THE STORED SIDE
+
+abbrev pub codeSum : State → ℕ → Summed
+codeSum s c = cond (leb 78 c) refused (summed (changed (changeAt c)) (said (saysAt c)) (over (stateOp (changeAt c .0)) s))
+
+abbrev asked-way : State → Ask → Way
+asked-way s (gives c) = only (codeSum s c)
+asked-way s (asks q y n) = when (number q) (asked-way s y) (asked-way s n)
+
+by-answer : (b : Bool) (g : ℕ → Summed) (y n : ℕ) (w v : Summed) → w ≡ g y → v ≡ g n → cond b w v ≡ g (cond b y n)
+by-answer true g y n w v p q = p
+by-answer false g y n w v p q = q
+
+stored-way : (s : State) (a : Ask) (f : Facts) → taken (asked-way s a) f ≡ codeSum s (follow f a)
+stored-way s (gives c) f = refl
+stored-way s (asks q y n) f =
+    rw (numbered q f) (by-answer (holds q f) (codeSum s) (follow f y) (follow f n) _ _ (stored-way s y f) (stored-way s n f))
+
+-- what is left of a way once an answer is known
+abbrev given : ℕ → Bool → Way → Way
+given q b (only d) = only d
+given q b (when p w v) = cond (eqb p q) (cond b (given q b w) (given q b v)) (when p (given q b w) (given q b v))
+
+known : (b : Bool) (w v w′ v′ : Way) (f : Facts) → taken w′ f ≡ taken w f → taken v′ f ≡ taken v f → taken (cond b w′ v′) f ≡ cond b (taken w f) (taken v f)
+known true w v w′ v′ f x y = x
+known false w v w′ v′ f x y = y
+
+given-by : (z : Bool) (p q : ℕ) (b : Bool) (w v w′ v′ : Way) (f : Facts) → eqb p q ≡ z → test q f ≡ b → taken w′ f ≡ taken w f → taken v′ f ≡ taken v f →
+    taken (cond z (cond b w′ v′) (when p w′ v′)) f ≡ cond (test p f) (taken w f) (taken v f)
+given-by true p q b w v w′ v′ f e t x y = rw (eqb-true p q e, t) (known b w v w′ v′ f x y)
+given-by false p q b w v w′ v′ f e t x y = rw (x, y)
+
+given-way : (q : ℕ) (b : Bool) (w : Way) (f : Facts) → test q f ≡ b → taken (given q b w) f ≡ taken w f
+given-way q b (only d) f t = refl
+given-way q b (when p w v) f t = given-by (eqb p q) p q b w v _ _ f refl t (given-way q b w f t) (given-way q b v f t)
+
+-- THE PAPER'S SIDE
+
+-- a cell behind what arriving does and the actions read so far
+abbrev way : List Act → List Act → Cell → Way
+way arrives acts Illegal = only refused
+way arrives acts (to next) = only (sum arrives (does acts next))
+way arrives acts (a ⨟ c) = way arrives (acts ++ a ∷ []) c
+way arrives acts (IF q THEN c ELSE d) = when (number q) (way arrives acts c) (way arrives acts d)
+
+abbrev behind : List Act → Choice → Choice
+behind acts illegal = illegal
+behind acts (does more next) = does (acts ++ more) next
+
+one-more : (acts : List Act) (a : Act) (x : Choice) → behind (acts ++ a ∷ []) x ≡ behind acts (after a x)
+one-more acts a illegal = refl
+one-more acts a (does more next) = ap (λ (l : List Act). does l next) (append-assoc acts (a ∷ []) more)
+
+by-holds : (b : Bool) (arrives acts : List Act) (x y : Choice) (w v : Summed) → w ≡ sum arrives (behind acts x) → v ≡ sum arrives (behind acts y) →
+    cond b w v ≡ sum arrives (behind acts (cond b x y))
+by-holds true arrives acts x y w v p q = p
+by-holds false arrives acts x y w v p q = q
+
+append-nil : (acts : List Act) → acts ≡ acts ++ []
+append-nil [] = refl
+append-nil (a ∷ acts) = ap (λ (l : List Act). a ∷ l) (append-nil acts)
+
+paper-way : (arrives acts : List Act) (c : Cell) (f : Facts) → taken (way arrives acts c) f ≡ sum arrives (behind acts (chosen f c))
+paper-way arrives acts Illegal f = refl
+paper-way arrives acts (to next) f = ap (λ (l : List Act). sum arrives (does l next)) (append-nil acts)
+paper-way arrives acts (a ⨟ c) f = paper-way arrives (acts ++ a ∷ []) c f ∙ ap (sum arrives) (one-more acts a (chosen f c))
+paper-way arrives acts (IF q THEN c ELSE d) f =
+    rw (numbered q f) (by-holds (holds q f) arrives acts (chosen f c) (chosen f d) _ _ (paper-way arrives acts c f) (paper-way arrives acts d f))
+
+-- THE TEST
+
+abbrev asked : Printed → ℕ
+asked (one r) = 0
+asked (two q r s) = number q
+
+abbrev printedIf : Bool → Printed → Row
+printedIf b (one r) = r
+printedIf true (two q r s) = r
+printedIf false (two q r s) = s
+
+abbrev eight : (State → Way) → List Way
+eight g = g State.S111 ∷ g State.S141 ∷ g State.S212 ∷ g State.S222 ∷ g State.S242 ∷ g State.S2103 ∷ g State.S2104 ∷ g State.S3105 ∷ []
+
+abbrev storedCell : Bool → ℕ → State → Way
+storedCell b row s = given (asked (heading row .row)) b (asked-way s (among (getD codes (row * 8 + place s) 0) questions))
+
+abbrev paperCell : Bool → ℕ → State → Way
+paperCell b row s = way (heading row .arrives) [] (cell (printedIf b (heading row .row)) s)
+
+all-cells : (b : Bool) → from (λ row. eight (storedCell b row)) 0 35 ≡ from (λ row. eight (paperCell b row)) 0 35
+unfolding changeAt saysAt AAL-MESSAGE-FOR-TRANSMISSION-request AAL-EMERGENCY-request AAL-EMERGENCY-CEASES-request AAL-STOP-request AAL-START-request AAL-RETRIEVE-BSNT-request AAL-RETRIEVAL-REQUEST-AND-FSNC-request AAL-FLUSH-BUFFERS-request AAL-CONTINUE-request AA-ESTABLISH-indication-with-EM-NM AA-ESTABLISH-indication-with-others AA-ESTABLISH-confirm-with-EM-NM AA-ESTABLISH-confirm-with-others AA-RELEASE-indication-from-User AA-RELEASE-indication-from-SSCOP AA-RELEASE-confirm AA-DATA-indication-with-INS AA-DATA-indication-with-NM AA-DATA-indication-with-other AA-DATA-indication-with-MU>4 AA-RESYNC-indication AA-RECOVER-indication AA-UNITDATA-indication AA-RETRIEVE-indication AA-RETRIEVE-COMPLETE-indication MAAL-PROVING-UNSUCCESSFUL-response MAAL-RELEASE-request MAAL-LOCAL-PROCESSOR-OUTAGE-request MAAL-LOCAL-PROCESSOR-RECOVERED-request MAAL-FORCE-PROVING-request MAAL-FORCE-EMERGENCY-request MAAL-CLEAR-FORCE-MODES-request Local-Congestion Local-Congestion-Ceased T1-expires T2-expires T3-expires-and-C1>0 T3-expires-and-C1=0
+all-cells true = refl
+all-cells false = refl
+
+-- THE RULE AT EACH CELL
+
+of-eight : (g h : State → Way) → eight g ≡ eight h → (s : State) → g s ≡ h s
+of-eight g h e State.S111 = ap (λ (l : List Way). getD l 0 (only refused)) e
+of-eight g h e State.S141 = ap (λ (l : List Way). getD l 1 (only refused)) e
+of-eight g h e State.S212 = ap (λ (l : List Way). getD l 2 (only refused)) e
+of-eight g h e State.S222 = ap (λ (l : List Way). getD l 3 (only refused)) e
+of-eight g h e State.S242 = ap (λ (l : List Way). getD l 4 (only refused)) e
+of-eight g h e State.S2103 = ap (λ (l : List Way). getD l 5 (only refused)) e
+of-eight g h e State.S2104 = ap (λ (l : List Way). getD l 6 (only refused)) e
+of-eight g h e State.S3105 = ap (λ (l : List Way). getD l 7 (only refused)) e
+
+same-cell : (b : Bool) (row : ℕ) → row < 35 → (s : State) → storedCell b row s ≡ paperCell b row s
+same-cell b row h = of-eight (storedCell b row) (paperCell b row) (alike (λ k. eight (storedCell b k)) (λ k. eight (paperCell b k)) 35 [] (all-cells b) row h)
+
+from-start : (x : Choice) → behind [] x ≡ x
+from-start illegal = refl
+from-start (does acts next) = refl
+
+picked : (b : Bool) (q : Cond) (r s : Row) → printedIf b (two q r s) ≡ cond b r s
+picked true q r s = refl
+picked false q r s = refl
+
+printed-by : (p : Printed) (f : Facts) → printedIf (test (asked p) f) p ≡ printed f p
+printed-by (one r) f = refl
+printed-by (two q r s) f = rw (numbered q f) (picked (holds q f) q r s)
+
+inside : (row : ℕ) (s : State) (f : Facts) → row < 35 → codeSum s (answer f (getD codes (row * 8 + place s) 0)) ≡ meets (heading row) s f
+unfolding answer
+inside row s f h =
+    let a : Ask = among (getD codes (row * 8 + place s) 0) questions in
+    let p : Printed = heading row .row in
+    let q : ℕ = asked p in
+    sym (stored-way s a f)
+    ∙ sym (given-way q (test q f) (asked-way s a) f refl)
+    ∙ ap (λ (w : Way). taken w f) (same-cell (test q f) row h s)
+    ∙ paper-way (heading row .arrives) [] (cell (printedIf (test q f) p) s) f
+    ∙ ap (sum (heading row .arrives)) (from-start (chosen f (cell (printedIf (test q f) p) s)) ∙ ap (λ (r : Row). chosen f (cell r s)) (printed-by p f))
+
+no-cell : (s : State) (f : Facts) → refused ≡ meets nowhere s f
+no-cell State.S111 f = refl
+no-cell State.S141 f = refl
+no-cell State.S212 f = refl
+no-cell State.S222 f = refl
+no-cell State.S242 f = refl
+no-cell State.S2103 f = refl
+no-cell State.S2104 f = refl
+no-cell State.S3105 f = refl
+
+outside : (row : ℕ) (s : State) (f : Facts) → 35 ≤ row → codeSum s (answer f 78) ≡ meets (heading row) s f
+unfolding answer
+outside row s f h = rw (← past rows row nowhere h) (no-cell s f)
+
+by-row : (b : Bool) (row : ℕ) (s : State) (f : Facts) → ltb row 35 ≡ b →
+    codeSum s (answer f (cond b (getD codes (row * 8 + place s) 0) 78)) ≡ meets (heading row) s f
+by-row true row s f e = inside row s f (ltb-true row 35 e)
+by-row false row s f e = outside row s f (ltb-false row 35 e)
+
+pub at-each-cell : (row : ℕ) (s : State) (f : Facts) → codeSum s (answer f (codeAt row s)) ≡ met row s f
+unfolding codeAt met
+at-each-cell row s f = by-row (ltb row 35) row s f refl

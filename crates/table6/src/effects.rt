@@ -1,0 +1,352 @@
+// What each code of Table 6 does: to every field of a link, and which signals it emits, in their order.
+use crate::cells;
+ghost use mathlib.Core.Path.{_≡_};
+ghost use mathlib.Core.List.{[], _∷_};
+ghost use Rattle.table6.specs.Stored.{changeAt, packed, saysAt};
+
+// Kept as it is.
+pub const K: u8 = 9;
+
+pub const TO_111: u8 = 0;
+
+pub const TO_141: u8 = 1;
+
+pub const TO_212: u8 = 2;
+
+pub const TO_222: u8 = 3;
+
+pub const TO_242: u8 = 4;
+
+pub const TO_2103: u8 = 5;
+
+pub const TO_2104: u8 = 6;
+
+pub const TO_3105: u8 = 7;
+
+// The INS flag, LPO and the timers.
+pub const OFF: u8 = 0;
+
+pub const ON: u8 = 1;
+
+pub const MPS_N: u8 = 0;
+
+pub const MPS_NM: u8 = 1;
+
+pub const MPS_EM: u8 = 2;
+
+pub const UPS_NM: u8 = 0;
+
+pub const UPS_EM: u8 = 1;
+
+// C1 is decided by Table 7, or becomes one less.
+pub const DECIDED: u8 = 0;
+
+pub const LESS: u8 = 1;
+
+// BSNT becomes the number that came.
+pub const TAKEN: u8 = 1;
+
+// The next state; the INS flag, LPO, MPS, UPS; T1, T2, T3; C1, BSNT.
+pub struct Change(
+    pub u8,
+    pub u8,
+    pub u8,
+    pub u8,
+    pub u8,
+    pub u8,
+    pub u8,
+    pub u8,
+    pub u8,
+    pub u8,
+);
+
+pub fn change_of(code: u8) -> Change
+    ensures { λ r. ⌜ r ≡ changeAt code ⌝ }
+{
+    match code {
+        cells::MESSAGE => Change(K, K, K, K, K, K, K, K, K, K),
+        cells::EMERGENCY => Change(K, K, K, K, UPS_EM, K, K, K, K, K),
+        cells::EMERGENCY_CEASES => Change(K, K, K, K, UPS_NM, K, K, K, K, K),
+        cells::STOP_212 => Change(TO_111, K, K, K, UPS_NM, OFF, OFF, K, K, K),
+        cells::STOP_222 => Change(TO_141, K, K, K, UPS_NM, K, OFF, K, K, K),
+        cells::STOP_242 => Change(TO_141, K, K, K, UPS_NM, K, OFF, K, K, K),
+        cells::STOP_2103 => Change(TO_141, K, K, K, UPS_NM, K, OFF, OFF, K, K),
+        cells::STOP_2104 => Change(TO_141, K, K, K, UPS_NM, K, OFF, K, K, K),
+        cells::STOP_3105 => Change(TO_141, K, K, K, UPS_NM, K, K, K, K, K),
+        cells::START => Change(TO_222, K, K, K, K, K, ON, K, K, K),
+        cells::BSNT_KNOWN => Change(K, K, K, K, K, K, K, K, K, K),
+        cells::BSNT_UNKNOWN => Change(K, K, K, K, K, K, K, K, K, K),
+        cells::RETRIEVAL => Change(K, K, K, K, K, K, K, K, K, K),
+        cells::IGNORED => Change(K, K, K, K, K, K, K, K, K, K),
+        cells::REFUSED_OOS => Change(K, K, K, K, K, K, K, K, K, K),
+        cells::REFUSED_PO => Change(K, K, K, K, K, K, K, K, K, K),
+        cells::RESPONDED => Change(TO_2103, OFF, K, K, K, OFF, K, ON, DECIDED, K),
+        cells::REFUSED_PE => Change(K, K, K, K, K, K, K, K, K, K),
+        cells::CONFIRMED => Change(TO_2103, OFF, K, K, K, K, K, ON, DECIDED, K),
+        cells::CONFIRMED_PE => Change(TO_242, OFF, K, K, K, K, K, K, DECIDED, K),
+        cells::RELEASED => Change(TO_212, K, K, K, K, ON, K, K, K, K),
+        cells::RELEASED_SSCOP => Change(TO_212, K, K, K, K, ON, K, K, K, K),
+        cells::RELEASED_2103 => Change(TO_212, K, K, K, K, ON, K, OFF, K, K),
+        cells::RELEASED_SSCOP_2103 => Change(TO_212, K, K, K, K, ON, K, OFF, K, K),
+        cells::RELEASED_3105 => Change(TO_111, K, K, K, UPS_NM, K, K, K, K, K),
+        cells::RELEASED_SSCOP_3105 => Change(TO_111, K, K, K, UPS_NM, K, K, K, K, K),
+        cells::RELEASE_CONFIRMED_141 => Change(TO_111, K, K, K, K, K, K, K, K, K),
+        cells::RELEASE_CONFIRMED_242 => Change(TO_212, K, K, K, K, ON, K, K, K, K),
+        cells::INS_2103 => Change(K, ON, K, K, K, K, K, K, K, TAKEN),
+        cells::INS_2104 => Change(TO_3105, K, K, K, K, K, OFF, K, K, TAKEN),
+        cells::UNIT_3105 => Change(TO_141, K, K, K, UPS_NM, K, K, K, K, TAKEN),
+        cells::UNIT_TAKEN => Change(K, K, K, K, K, K, K, K, K, TAKEN),
+        cells::LONG_2103 => Change(TO_242, K, K, K, K, K, K, OFF, K, TAKEN),
+        cells::LONG_2104 => Change(TO_242, K, K, K, K, K, K, K, K, TAKEN),
+        cells::LONG_3105 => Change(K, K, K, K, K, K, K, K, K, TAKEN),
+        cells::RESYNC_2103 => Change(TO_242, K, K, K, K, K, K, OFF, K, K),
+        cells::RESYNC_2104 => Change(TO_242, K, K, K, K, K, K, K, K, K),
+        cells::RESYNC_3105 => Change(TO_141, K, K, K, UPS_NM, K, K, K, K, K),
+        cells::RECOVER => Change(K, K, K, K, K, K, K, K, K, K),
+        cells::UNITDATA => Change(K, K, K, K, K, K, K, K, K, K),
+        cells::RETRIEVED => Change(K, K, K, K, K, K, K, K, K, K),
+        cells::RETRIEVE_COMPLETE => Change(K, K, K, K, K, K, K, K, K, K),
+        cells::PROVING_UNSUCCESSFUL => Change(TO_242, K, K, K, K, K, K, OFF, K, K),
+        cells::RELEASE_212 => Change(TO_111, K, K, K, UPS_NM, OFF, OFF, K, K, K),
+        cells::RELEASE_222 => Change(TO_141, K, K, K, UPS_NM, K, OFF, K, K, K),
+        cells::RELEASE_242 => Change(TO_141, K, K, K, UPS_NM, K, OFF, K, K, K),
+        cells::RELEASE_2103 => Change(TO_141, K, K, K, UPS_NM, K, OFF, OFF, K, K),
+        cells::RELEASE_3105 => Change(TO_141, K, K, K, UPS_NM, K, K, K, K, K),
+        cells::OUTAGE => Change(K, K, ON, K, K, K, K, K, K, K),
+        cells::OUTAGE_2104 => Change(TO_141, K, ON, K, UPS_NM, K, OFF, K, K, K),
+        cells::OUTAGE_3105 => Change(TO_141, K, ON, K, UPS_NM, K, K, K, K, K),
+        cells::RECOVERED => Change(K, K, OFF, K, K, K, K, K, K, K),
+        cells::FORCE_PROVING => Change(K, K, K, MPS_NM, K, K, K, K, K, K),
+        cells::FORCE_EMERGENCY => Change(K, K, K, MPS_EM, K, K, K, K, K, K),
+        cells::CLEAR_FORCE_MODES => Change(K, K, K, MPS_N, K, K, K, K, K, K),
+        cells::CONGESTION_2103 => Change(TO_242, K, K, K, K, K, K, OFF, K, K),
+        cells::CONGESTION => Change(K, K, K, K, K, K, K, K, K, K),
+        cells::CEASED_242 => Change(K, K, K, K, K, K, K, K, K, K),
+        cells::CEASED => Change(K, K, K, K, K, K, K, K, K, K),
+        cells::T1_212 => Change(TO_222, K, K, K, K, OFF, K, K, K, K),
+        cells::T2_212 => Change(TO_111, K, K, K, UPS_NM, OFF, OFF, K, K, K),
+        cells::T2_222 => Change(TO_141, K, K, K, UPS_NM, K, OFF, K, K, K),
+        cells::T2_242 => Change(TO_141, K, K, K, UPS_NM, K, OFF, K, K, K),
+        cells::T2_2103 => Change(TO_141, K, K, K, UPS_NM, K, OFF, OFF, K, K),
+        cells::T2_2104 => Change(TO_141, K, K, K, UPS_NM, K, OFF, K, K, K),
+        cells::T3_PROVING => Change(K, K, K, K, K, K, K, ON, LESS, K),
+        cells::T3_ALIGNED => Change(TO_2104, K, K, K, K, K, K, OFF, K, K),
+        cells::T3_IN_SERVICE => Change(TO_3105, K, K, K, K, K, OFF, OFF, K, K),
+        cells::T3_OUTAGE => Change(TO_141, K, K, K, UPS_NM, K, OFF, OFF, K, K),
+        _ => Change(K, K, K, K, K, K, K, K, K, K),
+    }
+}
+
+// The signals that the table uses. The first six carry what the event or the link brings.
+pub const LINK_CONGESTED: u8 = 0;
+
+pub const BSNT: u8 = 1;
+
+pub const ESTABLISH_REQUEST: u8 = 2;
+
+pub const ESTABLISH_RESPONSE: u8 = 3;
+
+pub const RETRIEVE_REQUEST: u8 = 4;
+
+pub const REPORT_RR_UU: u8 = 5;
+
+pub const RECEIVED_MESSAGE: u8 = 6;
+
+pub const CONGESTION_CEASED: u8 = 7;
+
+pub const IN: u8 = 8;
+
+pub const OUT: u8 = 9;
+
+pub const RETRIEVED_MESSAGES: u8 = 10;
+
+pub const RETRIEVAL_COMPLETE: u8 = 11;
+
+pub const BSNT_NOT_RETRIEVABLE: u8 = 12;
+
+pub const RELEASE_OOS: u8 = 13;
+
+pub const RELEASE_PO: u8 = 14;
+
+pub const RELEASE_ANS: u8 = 15;
+
+pub const RELEASE_MI: u8 = 16;
+
+pub const RELEASE_PE: u8 = 17;
+
+pub const RELEASE_PNS: u8 = 18;
+
+pub const UNIT_NM: u8 = 19;
+
+pub const UNIT_INS: u8 = 20;
+
+pub const DATA: u8 = 21;
+
+pub const RECOVER_RESPONSE: u8 = 22;
+
+pub const PROVE: u8 = 23;
+
+pub const STOP: u8 = 24;
+
+pub const REPORT_CC: u8 = 25;
+
+pub const REPORT_CD: u8 = 26;
+
+pub const REPORT_SREC: u8 = 27;
+
+pub const REPORT_UDR: u8 = 28;
+
+pub const REPORT_PDUT: u8 = 29;
+
+pub const REPORT_OOS: u8 = 30;
+
+pub const REPORT_OOS_ANS: u8 = 31;
+
+pub const REPORT_INS: u8 = 32;
+
+pub const REPORT_ALN: u8 = 33;
+
+pub const REPORT_LR_CD: u8 = 34;
+
+pub const REPORT_LR_PE: u8 = 35;
+
+pub const REPORT_LR_OOS: u8 = 36;
+
+pub const REPORT_LR_OOS_ANS: u8 = 37;
+
+pub const REPORT_LR_OOS_PE: u8 = 38;
+
+pub const REPORT_SR: u8 = 39;
+
+pub const REPORT_SR_OOS: u8 = 40;
+
+pub const RESET_T1: u8 = 41;
+
+pub const RESET_T2: u8 = 42;
+
+pub const RESET_T3: u8 = 43;
+
+pub const SET_T1: u8 = 44;
+
+pub const SET_T2: u8 = 45;
+
+pub const SET_T3: u8 = 46;
+
+// The signals of a code as one number: how many in its lowest octet, and then each in an octet, the first lowest.
+fn say0() -> u64
+    ensures { λ r. ⌜ r ≡ packed ([]) ⌝ }
+{
+    0
+}
+
+fn say1(a: u8) -> u64
+    ensures { λ r. ⌜ r ≡ packed (a ∷ []) ⌝ }
+{
+    1 + a as u64 * 256
+}
+
+fn say2(a: u8, b: u8) -> u64
+    ensures { λ r. ⌜ r ≡ packed (a ∷ b ∷ []) ⌝ }
+{
+    2 + a as u64 * 256 + b as u64 * 65536
+}
+
+fn say3(a: u8, b: u8, c: u8) -> u64
+    ensures { λ r. ⌜ r ≡ packed (a ∷ b ∷ c ∷ []) ⌝ }
+{
+    3 + a as u64 * 256 + b as u64 * 65536 + c as u64 * 16777216
+}
+
+fn say4(a: u8, b: u8, c: u8, d: u8) -> u64
+    ensures { λ r. ⌜ r ≡ packed (a ∷ b ∷ c ∷ d ∷ []) ⌝ }
+{
+    4 + a as u64 * 256 + b as u64 * 65536 + c as u64 * 16777216 + d as u64 * 4294967296
+}
+
+fn say5(a: u8, b: u8, c: u8, d: u8, e: u8) -> u64
+    ensures { λ r. ⌜ r ≡ packed (a ∷ b ∷ c ∷ d ∷ e ∷ []) ⌝ }
+{
+    5
+        + a as u64 * 256
+        + b as u64 * 65536
+        + c as u64 * 16777216
+        + d as u64 * 4294967296
+        + e as u64 * 1099511627776
+}
+
+pub fn says_of(code: u8) -> u64
+    ensures { λ r. ⌜ r ≡ saysAt code ⌝ }
+{
+    match code {
+        cells::MESSAGE => say2(DATA, REPORT_PDUT),
+        cells::EMERGENCY => say0(),
+        cells::EMERGENCY_CEASES => say0(),
+        cells::STOP_212 => say3(REPORT_OOS, RESET_T1, RESET_T2),
+        cells::STOP_222 => say3(RELEASE_OOS, REPORT_OOS, RESET_T2),
+        cells::STOP_242 => say2(REPORT_OOS, RESET_T2),
+        cells::STOP_2103 => say5(RELEASE_OOS, REPORT_LR_OOS, STOP, RESET_T2, RESET_T3),
+        cells::STOP_2104 => say3(RELEASE_OOS, REPORT_LR_OOS, RESET_T2),
+        cells::STOP_3105 => say2(RELEASE_OOS, REPORT_LR_OOS),
+        cells::START => say3(ESTABLISH_REQUEST, REPORT_ALN, SET_T2),
+        cells::BSNT_KNOWN => say1(BSNT),
+        cells::BSNT_UNKNOWN => say1(BSNT_NOT_RETRIEVABLE),
+        cells::RETRIEVAL => say1(RETRIEVE_REQUEST),
+        cells::IGNORED => say0(),
+        cells::REFUSED_OOS => say1(RELEASE_OOS),
+        cells::REFUSED_PO => say1(RELEASE_PO),
+        cells::RESPONDED => say4(ESTABLISH_RESPONSE, PROVE, RESET_T1, SET_T3),
+        cells::REFUSED_PE => say2(RELEASE_PE, REPORT_LR_PE),
+        cells::CONFIRMED => say2(PROVE, SET_T3),
+        cells::CONFIRMED_PE => say2(RELEASE_PE, REPORT_LR_PE),
+        cells::RELEASED => say2(REPORT_RR_UU, SET_T1),
+        cells::RELEASED_SSCOP => say2(REPORT_SR, SET_T1),
+        cells::RELEASED_2103 => say4(REPORT_RR_UU, STOP, RESET_T3, SET_T1),
+        cells::RELEASED_SSCOP_2103 => say4(REPORT_SR, STOP, RESET_T3, SET_T1),
+        cells::RELEASED_3105 => say2(OUT, REPORT_RR_UU),
+        cells::RELEASED_SSCOP_3105 => say2(OUT, REPORT_SR_OOS),
+        cells::RELEASE_CONFIRMED_141 => say0(),
+        cells::RELEASE_CONFIRMED_242 => say1(SET_T1),
+        cells::INS_2103 => say0(),
+        cells::INS_2104 => say3(IN, REPORT_INS, RESET_T2),
+        cells::UNIT_3105 => say3(RELEASE_PE, OUT, REPORT_LR_OOS_PE),
+        cells::UNIT_TAKEN => say0(),
+        cells::LONG_2103 => say4(REPORT_LR_PE, RELEASE_PE, STOP, RESET_T3),
+        cells::LONG_2104 => say2(RELEASE_PE, REPORT_LR_PE),
+        cells::LONG_3105 => say1(RECEIVED_MESSAGE),
+        cells::RESYNC_2103 => say4(REPORT_LR_PE, RELEASE_PE, STOP, RESET_T3),
+        cells::RESYNC_2104 => say2(REPORT_LR_PE, RELEASE_PE),
+        cells::RESYNC_3105 => say3(RELEASE_PE, OUT, REPORT_LR_OOS_PE),
+        cells::RECOVER => say2(RECOVER_RESPONSE, REPORT_SREC),
+        cells::UNITDATA => say1(REPORT_UDR),
+        cells::RETRIEVED => say1(RETRIEVED_MESSAGES),
+        cells::RETRIEVE_COMPLETE => say1(RETRIEVAL_COMPLETE),
+        cells::PROVING_UNSUCCESSFUL => say2(RELEASE_PNS, RESET_T3),
+        cells::RELEASE_212 => say3(OUT, RESET_T1, RESET_T2),
+        cells::RELEASE_222 => say3(RELEASE_MI, OUT, RESET_T2),
+        cells::RELEASE_242 => say2(OUT, RESET_T2),
+        cells::RELEASE_2103 => say4(RELEASE_MI, OUT, RESET_T2, RESET_T3),
+        cells::RELEASE_3105 => say2(RELEASE_MI, OUT),
+        cells::OUTAGE => say0(),
+        cells::OUTAGE_2104 => say3(RELEASE_PO, OUT, RESET_T2),
+        cells::OUTAGE_3105 => say2(RELEASE_PO, OUT),
+        cells::RECOVERED => say0(),
+        cells::FORCE_PROVING => say0(),
+        cells::FORCE_EMERGENCY => say0(),
+        cells::CLEAR_FORCE_MODES => say0(),
+        cells::CONGESTION_2103 => say4(RELEASE_PNS, REPORT_LR_CD, STOP, RESET_T3),
+        cells::CONGESTION => say2(LINK_CONGESTED, REPORT_CD),
+        cells::CEASED_242 => say1(REPORT_CC),
+        cells::CEASED => say2(CONGESTION_CEASED, REPORT_CC),
+        cells::T1_212 => say1(ESTABLISH_REQUEST),
+        cells::T2_212 => say3(OUT, REPORT_LR_OOS_ANS, RESET_T1),
+        cells::T2_222 => say3(RELEASE_ANS, OUT, REPORT_LR_OOS_ANS),
+        cells::T2_242 => say2(OUT, REPORT_OOS_ANS),
+        cells::T2_2103 => say5(REPORT_LR_OOS_ANS, STOP, OUT, RELEASE_ANS, RESET_T3),
+        cells::T2_2104 => say3(REPORT_LR_OOS_ANS, OUT, RELEASE_ANS),
+        cells::T3_PROVING => say2(UNIT_NM, SET_T3),
+        cells::T3_ALIGNED => say2(STOP, UNIT_INS),
+        cells::T3_IN_SERVICE => say5(STOP, UNIT_INS, REPORT_INS, IN, RESET_T2),
+        cells::T3_OUTAGE => say5(RELEASE_PO, OUT, REPORT_LR_OOS, STOP, RESET_T2),
+        _ => say0(),
+    }
+}

@@ -1,0 +1,54 @@
+// Table 6 of Q.2140: what the cell of an event and a state does, as a constant table with what its codes stand for.
+mod cells;
+pub mod effects;
+pub mod rows;
+
+ghost use mathlib.Core.Path.{_≡_};
+ghost use Rattle.table6.specs.Stored.{metAs};
+ghost use Rattle.table6.specs.Rows.{met};
+
+pub enum State {
+    S111,
+    S141,
+    S212,
+    S222,
+    S242,
+    S2103,
+    S2104,
+    S3105,
+}
+
+// What the conditions of a cell ask.
+pub struct Facts {
+    // LPO is 1.
+    pub lpo: bool,
+    // The INS flag is 1.
+    pub ins: bool,
+    // The peer's SSCOP-UU is EM or NM.
+    pub uu: bool,
+    // The far user released, and not SSCOP.
+    pub user: bool,
+    // BSNT is available.
+    pub bsnt: bool,
+    // The message has more than four octets.
+    pub long: bool,
+}
+
+pub enum Met {
+    Illegal,
+    // What it does to the link, and its signals, as effects.rt numbers them.
+    Does(effects::Change, u64),
+}
+
+// The cell of a row and a state under these facts. A row that the table doesn't have is Illegal.
+pub fn cell(row: u8, state: State, facts: Facts) -> Met
+    ensures { λ r. ⌜ metAs state r ≡ met row state facts ⌝ }
+{
+    let code = cells::code_at(row, state);
+    let last = cells::answered(code, facts);
+    if cells::ILLEGAL <= last {
+        Met::Illegal
+    } else {
+        Met::Does(effects::change_of(last), effects::says_of(last))
+    }
+}
