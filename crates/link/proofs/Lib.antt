@@ -1,0 +1,2 @@
+pub mod Performed
+pub mod Spoken

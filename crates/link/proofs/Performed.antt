@@ -1,0 +1,140 @@
+-- The step is Table 6 performed: a summary does what its actions do, one by one, and a view shows the meeting that the event is. Assumes nothing.
+use mathlib.Core.Path.{_≡_, refl, sym, ap, _∙_}
+use mathlib.Core.Bool.{Bool, true, false, cond}
+use mathlib.Core.List.{List, [], _∷_, _++_, map}
+use Prim.Native.Nat.{ℕ}
+use lib.Dec.{eqb}
+use Rattle.unit.specs.declared.Arrived.{Arrived}
+use Rattle.table6.specs.declared.Facts.{Facts}
+use Rattle.table6.specs.declared.Met.{Met}
+use Rattle.table6.specs.Cell.{T1, T2, T3, Act, AAL-RECEIVED-MESSAGE-indication, AAL-LINK-CONGESTED-indication, AAL-LINK-CONGESTION-CEASED-indication, AAL-IN-SERVICE-indication, AAL-OUT-OF-SERVICE-indication, AAL-RETRIEVED-MESSAGES-indication, AAL-RETRIEVAL-COMPLETE-indication, AAL-BSNT-confirm, AAL-BSNT-NOT-RETRIEVABLE-confirm, AA-ESTABLISH-request, AA-ESTABLISH-response, AA-RELEASE-request, AA-DATA-request, AA-RECOVER-response, AA-RETRIEVE-request, MAAL-PROVING-indication, MAAL-STOP-PROVING-indication, MAAL-REPORT-indication, Set-UPS=NM, Set-UPS=EM, Set-MPS=N, Set-MPS=NM, Set-MPS=EM, Set-LPO=0, Set-LPO=1, Set-INS-flag, Reset-INS-flag, Generate-N1, Set-C1=N1, Decrement-C1, Set, Reset, connection-up, take-BSNT, end, cell, Choice, illegal, does, chosen}
+use Rattle.table6.specs.Order.{signals}
+use Rattle.table6.specs.Summary.{Summary, still, then, summary, Summed, refused, summed, sum}
+use Rattle.table6.specs.Rows.{Heading, heading, printed, met}
+use Rattle.table6.specs.Stored.{metAs}
+use Rattle.link.specs.declared.Num.{Num}
+use Rattle.link.specs.declared.Link.{Link}
+use Rattle.link.specs.declared.Event.{Event}
+use Rattle.link.specs.declared.Event.the-variants as event
+use Rattle.link.specs.declared.View.{View}
+use Rattle.link.specs.declared.Signal.{Signal}
+use Rattle.link.specs.Effect.{with-state, effect, performed}
+use Rattle.link.specs.Signal.{signalOf}
+use Rattle.link.specs.Step.{Meeting, meets, t3Row, meeting, facts, Outcome, Illegal, Legal, outcome, at-meeting, stepOf}
+use Rattle.link.specs.Stored.{viewOf, meetingOf, factsOf, summedUp}
+
+-- SUMMARIES
+
+one-act : (a : Act) (s : Summary) (p : ℕ) (n : Num) (l : Link) → effect a p n l (summedUp s p n l) ≡ summedUp (then a s) p n l
+one-act AAL-RECEIVED-MESSAGE-indication s p n l = refl
+one-act AAL-LINK-CONGESTED-indication s p n l = refl
+one-act AAL-LINK-CONGESTION-CEASED-indication s p n l = refl
+one-act AAL-IN-SERVICE-indication s p n l = refl
+one-act AAL-OUT-OF-SERVICE-indication s p n l = refl
+one-act AAL-RETRIEVED-MESSAGES-indication s p n l = refl
+one-act AAL-RETRIEVAL-COMPLETE-indication s p n l = refl
+one-act AAL-BSNT-confirm s p n l = refl
+one-act AAL-BSNT-NOT-RETRIEVABLE-confirm s p n l = refl
+one-act AA-ESTABLISH-request s p n l = refl
+one-act AA-ESTABLISH-response s p n l = refl
+one-act (AA-RELEASE-request uu) s p n l = refl
+one-act (AA-DATA-request mu) s p n l = refl
+one-act AA-RECOVER-response s p n l = refl
+one-act AA-RETRIEVE-request s p n l = refl
+one-act MAAL-PROVING-indication s p n l = refl
+one-act MAAL-STOP-PROVING-indication s p n l = refl
+one-act (MAAL-REPORT-indication a b c) s p n l = refl
+one-act Set-UPS=NM s p n l = refl
+one-act Set-UPS=EM s p n l = refl
+one-act Set-MPS=N s p n l = refl
+one-act Set-MPS=NM s p n l = refl
+one-act Set-MPS=EM s p n l = refl
+one-act Set-LPO=0 s p n l = refl
+one-act Set-LPO=1 s p n l = refl
+one-act Set-INS-flag s p n l = refl
+one-act Reset-INS-flag s p n l = refl
+one-act Generate-N1 s p n l = refl
+one-act Set-C1=N1 s p n l = refl
+one-act Decrement-C1 s p n l = refl
+one-act (Set T1) s p n l = refl
+one-act (Set T2) s p n l = refl
+one-act (Set T3) s p n l = refl
+one-act (Reset T1) s p n l = refl
+one-act (Reset T2) s p n l = refl
+one-act (Reset T3) s p n l = refl
+one-act connection-up s p n l = refl
+one-act take-BSNT s p n l = refl
+one-act (end T1) s p n l = refl
+one-act (end T2) s p n l = refl
+one-act (end T3) s p n l = refl
+
+all-acts : (acts : List Act) (s : Summary) (p : ℕ) (n : Num) (l : Link) → performed acts p n l (summedUp s p n l) ≡ summedUp (summary acts s) p n l
+all-acts [] s p n l = refl
+all-acts (a ∷ acts) s p n l = ap (performed acts p n l) (one-act a s p n l) ∙ all-acts acts (then a s) p n l
+
+-- an outcome from a summed-up cell
+abbrev pub outcomeOf : Link → Meeting → Summed → Outcome
+outcomeOf l m refused = Illegal
+outcomeOf l m (summed s says next) =
+    Legal (with-state next (summedUp s (m .param) (m .number) l)) (map (signalOf (m .param) (m .number) (l .mps) (l .ups) (l .bsnt .num)) says)
+
+as-performed : (l : Link) (m : Meeting) (x : Choice) → outcomeOf l m (sum (m .heading .arrives) x) ≡ outcome l m x
+as-performed l m illegal = refl
+as-performed l m (does acts next) =
+    ap (λ (k : Link). Legal (with-state next k) (map (signalOf (m .param) (m .number) (l .mps) (l .ups) (l .bsnt .num)) (signals acts)))
+    (sym (all-acts (m .heading .arrives ++ acts) still (m .param) (m .number) l))
+
+-- VIEWS
+
+shown-t3 : (b : Bool) → heading (cond b 34 33) ≡ cond b (heading 34) (heading 33)
+shown-t3 true = refl
+shown-t3 false = refl
+
+shown : (e : Event) (c1 : ℕ) → meetingOf (viewOf e c1) ≡ meeting e c1
+shown event.Message c1 = refl
+shown event.Emergency c1 = refl
+shown event.EmergencyCeases c1 = refl
+shown event.Stop c1 = refl
+shown event.Start c1 = refl
+shown event.RetrieveBsnt c1 = refl
+shown (event.Retrieval n) c1 = refl
+shown event.FlushBuffers c1 = refl
+shown event.Continue c1 = refl
+shown (event.EstablishIndication p) c1 = refl
+shown (event.EstablishConfirm p) c1 = refl
+shown (event.ReleaseIndication f s) c1 = refl
+shown event.ReleaseConfirm c1 = refl
+shown (event.Data Arrived.INS n) c1 = refl
+shown (event.Data Arrived.NM n) c1 = refl
+shown (event.Data (Arrived.Other status) n) c1 = refl
+shown (event.Data Arrived.Short n) c1 = refl
+shown (event.Data Arrived.Long n) c1 = refl
+shown event.Resync c1 = refl
+shown event.Recover c1 = refl
+shown event.UnitData c1 = refl
+shown (event.Retrieve k) c1 = refl
+shown event.RetrieveComplete c1 = refl
+shown event.ProvingUnsuccessful c1 = refl
+shown event.Release c1 = refl
+shown event.Outage c1 = refl
+shown event.Recovered c1 = refl
+shown event.ForceProving c1 = refl
+shown event.ForceEmergency c1 = refl
+shown event.ClearForceModes c1 = refl
+shown (event.Congestion p) c1 = refl
+shown event.CongestionCeased c1 = refl
+shown event.T1 c1 = refl
+shown event.T2 c1 = refl
+shown event.T3 c1 = ap (λ (h : Heading). meets h) (shown-t3 (eqb c1 0))
+
+-- THE STEP
+
+met-there : (l : Link) (v : View) → outcomeOf l (meetingOf v) (met (v .0) (l .state) (factsOf l v)) ≡ at-meeting l (meetingOf v)
+unfolding met
+met-there l v = as-performed l (meetingOf v) (chosen (facts l (meetingOf v)) (cell (printed (facts l (meetingOf v)) (heading (v .0) .row)) (l .state)))
+
+pub stepped : (l : Link) (e : Event) (v : View) (f : Facts) (r : Met) → v ≡ viewOf e (l .c1) → f ≡ factsOf l v → metAs (l .state) r ≡ met (v .0) (l .state) f →
+    outcomeOf l (meetingOf v) (metAs (l .state) r) ≡ stepOf l e
+unfolding stepOf
+stepped l e v f r ev ef er =
+    ap (outcomeOf l (meetingOf v)) (er ∙ ap (met (v .0) (l .state)) ef) ∙ met-there l v ∙ ap (at-meeting l) (ap meetingOf ev ∙ shown e (l .c1))

@@ -1,0 +1,81 @@
+-- `link::applied` meets its contract: field by field. Assumes nothing.
+use borrow.Author.Needs.{needs}
+use mathlib.Core.Path.{_≡_}
+use mathlib.Core.Bool.{Bool}
+use Prim.Native.Nat.{ℕ}
+use Rattle.unit.specs.declared.Mps.{Mps}
+use Rattle.unit.specs.declared.Ups.{Ups}
+use Rattle.table6.specs.declared.State.{State}
+use Rattle.link.specs.declared.Bsnt.{Bsnt}
+use Rattle.link.specs.declared.Link.{Link}
+use Rattle.link.proofs.applied.Statement.{statement}
+use Rattle.link.proofs.applied.Tie as tie
+
+abbrev link : State → Bool → Bool → Mps → Ups → Bool → Bool → Bool → Bsnt → ℕ → ℕ → Link
+link state ins lpo mps ups t1 t2 t3 bsnt c1 n1 =
+    record { state = state; ins = ins; lpo = lpo; mps = mps; ups = ups; t1 = t1; t2 = t2; t3 = t3; bsnt = bsnt; c1 = c1; n1 = n1 }
+
+each : {s s′ : State} {i i′ : Bool} {l l′ : Bool} {m m′ : Mps} {u u′ : Ups} {a a′ : Bool} {b b′ : Bool} {d d′ : Bool} {n n′ : Bsnt} {k k′ : ℕ} (n1 : ℕ) →
+    s ≡ s′ → i ≡ i′ → l ≡ l′ → m ≡ m′ → u ≡ u′ → a ≡ a′ → b ≡ b′ → d ≡ d′ → n ≡ n′ → k ≡ k′ →
+    link s i l m u a b d n k n1 ≡ link s′ i′ l′ m′ u′ a′ b′ d′ n′ k′ n1
+each n1 ps pi pl pm pu pa pb pd pn pk = λ x. link (ps x) (pi x) (pl x) (pm x) (pu x) (pa x) (pb x) (pd x) (pn x) (pk x) n1
+
+state-after-requires : tie.Need-state-after-requires
+state-after-requires c κs = search needs
+
+flag-after-requires : tie.Need-flag-after-requires
+flag-after-requires c κs = search needs
+
+flag-after-requires-2 : tie.Need-flag-after-requires-2
+flag-after-requires-2 c κs = search needs
+
+mps-after-requires : tie.Need-mps-after-requires
+mps-after-requires c κs = search needs
+
+ups-after-requires : tie.Need-ups-after-requires
+ups-after-requires c κs = search needs
+
+flag-after-requires-3 : tie.Need-flag-after-requires-3
+flag-after-requires-3 c κs = search needs
+
+flag-after-requires-4 : tie.Need-flag-after-requires-4
+flag-after-requires-4 c κs = search needs
+
+flag-after-requires-5 : tie.Need-flag-after-requires-5
+flag-after-requires-5 c κs = search needs
+
+bsnt-after-requires : tie.Need-bsnt-after-requires
+bsnt-after-requires c κs = search needs
+
+c1-after-requires : tie.Need-c1-after-requires
+c1-after-requires c κs = search needs
+
+returns : tie.Need-returns
+returns c =
+    each (c .before .before .before .before .before .before .before .before .before .before .before .before .args .l .n1)
+    (c .before .before .before .before .before .before .before .before .before .state-after .ensures)
+    (c .before .before .before .before .before .before .before .before .flag-after .ensures)
+    (c .before .before .before .before .before .before .before .flag-after2 .ensures)
+    (c .before .before .before .before .before .before .mps-after .ensures)
+    (c .before .before .before .before .before .ups-after .ensures)
+    (c .before .before .before .before .flag-after3 .ensures)
+    (c .before .before .before .flag-after4 .ensures)
+    (c .before .before .flag-after5 .ensures)
+    (c .before .bsnt-after .ensures)
+    (c .c1-after .ensures)
+
+pub applied-spec : {M : Type 1} → statement M
+applied-spec =
+    tie.close
+    (tie.spec
+    state-after-requires
+    flag-after-requires
+    flag-after-requires-2
+    mps-after-requires
+    ups-after-requires
+    flag-after-requires-3
+    flag-after-requires-4
+    flag-after-requires-5
+    bsnt-after-requires
+    c1-after-requires
+    returns)

@@ -1,0 +1,15 @@
+-- `link::signals::count` meets its contract. Assumes nothing.
+use mathlib.Core.Path.{sym}
+use borrow.Author.Needs.{needs}
+use Rattle.link.proofs.Spoken.{counted}
+use Rattle.link.proofs.signals.count.Statement.{statement}
+use Rattle.link.proofs.signals.count.Tie as tie
+
+cast-result : tie.Need-cast-result
+cast-result c = search needs
+
+returns : tie.Need-returns
+returns c = sym (counted (c .before .args .o))
+
+pub count-spec : {M : Type 1} → statement M
+count-spec = tie.close (tie.spec cast-result returns)

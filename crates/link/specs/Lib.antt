@@ -1,0 +1,4 @@
+pub mod Effect
+pub mod Signal
+pub mod Step
+pub mod Stored

@@ -1,0 +1,101 @@
+-- What one event does to one link: the row of Table 6 that it meets, the cell of the link's state, what the facts choose there, performed.
+use Prim.Native.Nat.{ℕ}
+use mathlib.Core.Bool.{Bool, true, false, cond}
+use mathlib.Core.List.{List, [], _∷_, _++_, map}
+use lib.Dec.{eqb, ltb}
+use Rattle.unit.specs.declared.Status.{Status}
+use Rattle.unit.specs.declared.Arrived.{Arrived}
+use Rattle.unit.specs.Unit.{code}
+use Rattle.table6.specs.declared.Facts.{Facts}
+use Rattle.table6.specs.Cell.{T1, T2, T3, Act, connection-up, take-BSNT, end, UU=EM-or-NM, Source=User, Row, cell, Choice, illegal, does, chosen}
+use Rattle.table6.specs.Table6.{AAL-MESSAGE-FOR-TRANSMISSION-request, AAL-EMERGENCY-request, AAL-EMERGENCY-CEASES-request, AAL-STOP-request, AAL-START-request, AAL-RETRIEVE-BSNT-request, AAL-RETRIEVAL-REQUEST-AND-FSNC-request, AAL-FLUSH-BUFFERS-request, AAL-CONTINUE-request, AA-ESTABLISH-indication-with-EM-NM, AA-ESTABLISH-indication-with-others, AA-ESTABLISH-confirm-with-EM-NM, AA-ESTABLISH-confirm-with-others, AA-RELEASE-indication-from-User, AA-RELEASE-indication-from-SSCOP, AA-RELEASE-confirm, AA-DATA-indication-with-INS, AA-DATA-indication-with-NM, AA-DATA-indication-with-other, AA-DATA-indication-with-MU>4, AA-RESYNC-indication, AA-RECOVER-indication, AA-UNITDATA-indication, AA-RETRIEVE-indication, AA-RETRIEVE-COMPLETE-indication, MAAL-PROVING-UNSUCCESSFUL-response, MAAL-RELEASE-request, MAAL-LOCAL-PROCESSOR-OUTAGE-request, MAAL-LOCAL-PROCESSOR-RECOVERED-request, MAAL-FORCE-PROVING-request, MAAL-FORCE-EMERGENCY-request, MAAL-CLEAR-FORCE-MODES-request, Local-Congestion, Local-Congestion-Ceased, T1-expires, T2-expires, T3-expires-and-C1>0, T3-expires-and-C1=0}
+use Rattle.table6.specs.Order.{signals}
+use Rattle.table6.specs.Rows.{Heading, plain, behind, two, printed}
+use Rattle.link.specs.declared.Num.{Num}
+use Rattle.link.specs.declared.Link.{Link}
+use Rattle.link.specs.declared.Event.{Event}
+use Rattle.link.specs.declared.Event.the-variants as event
+use Rattle.link.specs.declared.Signal.{Signal}
+use Rattle.link.specs.Effect.{with-state, performed}
+use Rattle.link.specs.Signal.{none, num, signalOf}
+
+-- The rows that an event meets, and what it brings: the parameter, the number, the source of a release, the length of a retrieved message.
+pub record Meeting : Type 0 where
+  pub heading : Heading
+  pub param : ℕ
+  pub number : Num
+  pub source : ℕ
+  pub len : ℕ
+
+abbrev pub meets : Heading → Meeting
+meets h = record { heading = h; param = 0; number = none; source = 0; len = 0 }
+
+abbrev pub with-param : ℕ → Heading → Meeting
+with-param p h = record { heading = h; param = p; number = none; source = 0; len = 0 }
+
+abbrev pub dataRow : Arrived → Heading
+dataRow Arrived.INS = behind take-BSNT AA-DATA-indication-with-INS
+dataRow Arrived.NM = behind take-BSNT AA-DATA-indication-with-NM
+dataRow (Arrived.Other status) = behind take-BSNT AA-DATA-indication-with-other
+dataRow Arrived.Short = behind take-BSNT AA-DATA-indication-with-other
+dataRow Arrived.Long = behind take-BSNT AA-DATA-indication-with-MU>4
+
+abbrev pub t3Row : ℕ → Heading
+t3Row c1 = cond (eqb c1 0) (behind (end T3) T3-expires-and-C1=0) (behind (end T3) T3-expires-and-C1>0)
+
+abbrev pub meeting : Event → ℕ → Meeting
+meeting event.Message c1 = meets (plain AAL-MESSAGE-FOR-TRANSMISSION-request)
+meeting event.Emergency c1 = meets (plain AAL-EMERGENCY-request)
+meeting event.EmergencyCeases c1 = meets (plain AAL-EMERGENCY-CEASES-request)
+meeting event.Stop c1 = meets (plain AAL-STOP-request)
+meeting event.Start c1 = meets (plain AAL-START-request)
+meeting event.RetrieveBsnt c1 = meets (plain AAL-RETRIEVE-BSNT-request)
+meeting (event.Retrieval n) c1 = record { heading = plain AAL-RETRIEVAL-REQUEST-AND-FSNC-request; param = 0; number = n; source = 0; len = 0 }
+meeting event.FlushBuffers c1 = meets (plain AAL-FLUSH-BUFFERS-request)
+meeting event.Continue c1 = meets (plain AAL-CONTINUE-request)
+meeting (event.EstablishIndication f) c1 = with-param f record { arrives = []; row = two UU=EM-or-NM AA-ESTABLISH-indication-with-EM-NM AA-ESTABLISH-indication-with-others }
+meeting (event.EstablishConfirm f) c1 = with-param f record { arrives = connection-up ∷ []; row = two UU=EM-or-NM AA-ESTABLISH-confirm-with-EM-NM AA-ESTABLISH-confirm-with-others }
+meeting (event.ReleaseIndication f s) c1 = record { heading = record { arrives = []; row = two Source=User AA-RELEASE-indication-from-User AA-RELEASE-indication-from-SSCOP }; param = f; number = none; source = s; len = 0 }
+meeting event.ReleaseConfirm c1 = meets (plain AA-RELEASE-confirm)
+meeting (event.Data a n) c1 = record { heading = dataRow a; param = 0; number = n; source = 0; len = 0 }
+meeting event.Resync c1 = meets (plain AA-RESYNC-indication)
+meeting event.Recover c1 = meets (plain AA-RECOVER-indication)
+meeting event.UnitData c1 = meets (plain AA-UNITDATA-indication)
+meeting (event.Retrieve k) c1 = record { heading = plain AA-RETRIEVE-indication; param = 0; number = none; source = 0; len = k }
+meeting event.RetrieveComplete c1 = meets (plain AA-RETRIEVE-COMPLETE-indication)
+meeting event.ProvingUnsuccessful c1 = meets (plain MAAL-PROVING-UNSUCCESSFUL-response)
+meeting event.Release c1 = meets (plain MAAL-RELEASE-request)
+meeting event.Outage c1 = meets (plain MAAL-LOCAL-PROCESSOR-OUTAGE-request)
+meeting event.Recovered c1 = meets (plain MAAL-LOCAL-PROCESSOR-RECOVERED-request)
+meeting event.ForceProving c1 = meets (plain MAAL-FORCE-PROVING-request)
+meeting event.ForceEmergency c1 = meets (plain MAAL-FORCE-EMERGENCY-request)
+meeting event.ClearForceModes c1 = meets (plain MAAL-CLEAR-FORCE-MODES-request)
+meeting (event.Congestion level) c1 = with-param level (plain Local-Congestion)
+meeting event.CongestionCeased c1 = meets (plain Local-Congestion-Ceased)
+meeting event.T1 c1 = meets (behind (end T1) T1-expires)
+meeting event.T2 c1 = meets (behind (end T2) T2-expires)
+meeting event.T3 c1 = meets (t3Row c1)
+
+abbrev pub named : ℕ → Bool
+named field = cond (eqb field (code Status.EM)) true (eqb field (code Status.NM))
+
+abbrev pub facts : Link → Meeting → Facts
+facts l m =
+    record { lpo = l .lpo; ins = l .ins; uu = named (m .param); user = eqb (m .source) 0; bsnt = l .bsnt .known; long = ltb 4 (m .len) }
+
+-- Illegal, or the record after the event and the signals in their order.
+pub data Outcome : Type 0 where
+  Illegal : Outcome
+  Legal : Link → List Signal → Outcome
+
+abbrev pub outcome : Link → Meeting → Choice → Outcome
+outcome l m illegal = Illegal
+outcome l m (does acts next) =
+    Legal (with-state next (performed (m .heading .arrives ++ acts) (m .param) (m .number) l l))
+    (map (signalOf (m .param) (m .number) (l .mps) (l .ups) (l .bsnt .num)) (signals acts))
+
+abbrev pub at-meeting : Link → Meeting → Outcome
+at-meeting l m = outcome l m (chosen (facts l m) (cell (printed (facts l m) (m .heading .row)) (l .state)))
+
+unfoldable pub stepOf : Link → Event → Outcome
+stepOf l e = at-meeting l (meeting e (l .c1))

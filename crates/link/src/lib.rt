@@ -1,0 +1,339 @@
+// One link by value: an event and a link's record give the next record and the signals, as Table 6 says.
+pub mod signals;
+
+use table6::Facts;
+use table6::Met;
+use table6::State;
+use table6::effects;
+use table6::effects::Change;
+use table6::rows;
+ghost use mathlib.Core.Path.{_≡_};
+ghost use mathlib.Core.Bool.{cond};
+ghost use Prim.Native.Nat.{_-_};
+ghost use Rattle.table6.specs.Summary.{over};
+ghost use Rattle.table6.specs.Stored.{flagOp, mpsOp, upsOp, stateOp, countOp, takesOp, changed};
+ghost use Rattle.link.specs.Effect.{with-state, taken};
+ghost use Rattle.link.specs.Step.{named, stepOf};
+ghost use Rattle.link.specs.Stored.{dataRowOf, t3RowOf, viewOf, factsOf, counted, summedUp, heard};
+use unit::Arrived;
+use unit::Mps;
+use unit::Status;
+use unit::Ups;
+
+// A number of 24 bits, its highest octet first; or the three values of a REPORT.
+pub struct Num {
+    pub a: u8,
+    pub b: u8,
+    pub c: u8,
+}
+
+// The number of the latest data indication. Where none is known it is not retrievable, and 0.
+pub struct Bsnt {
+    pub known: bool,
+    pub num: Num,
+}
+
+// A link's record: state, the INS flag, LPO, MPS, UPS, the timers that run, BSNT, C1 and n1.
+pub struct Link {
+    pub state: State,
+    pub ins: bool,
+    pub lpo: bool,
+    pub mps: Mps,
+    pub ups: Ups,
+    pub t1: bool,
+    pub t2: bool,
+    pub t3: bool,
+    pub bsnt: Bsnt,
+    pub c1: u16,
+    pub n1: u16,
+}
+
+// An event with what it carries. Its message stays where it is.
+pub enum Event {
+    Message,
+    Emergency,
+    EmergencyCeases,
+    Stop,
+    Start,
+    RetrieveBsnt,
+    Retrieval(Num),
+    FlushBuffers,
+    Continue,
+    EstablishIndication(u8),
+    EstablishConfirm(u8),
+    ReleaseIndication { field: u8, source: u8 },
+    ReleaseConfirm,
+    Data(Arrived, Num),
+    Resync,
+    Recover,
+    UnitData,
+    Retrieve { len: u16 },
+    RetrieveComplete,
+    ProvingUnsuccessful,
+    Release,
+    Outage,
+    Recovered,
+    ForceProving,
+    ForceEmergency,
+    ClearForceModes,
+    Congestion(u8),
+    CongestionCeased,
+    T1,
+    T2,
+    T3,
+}
+
+// The message that goes with a signal: none, a unit, or the event's own.
+pub enum Carries {
+    Nothing,
+    Unit(Status),
+    Message,
+}
+
+pub struct Signal {
+    pub code: u8,
+    pub param: u8,
+    pub num: Num,
+    pub carries: Carries,
+}
+
+const ZERO: Num = Num { a: 0, b: 0, c: 0 };
+
+// An event as Table 6 meets it: the row, the parameter, the number, the source, the length of the message.
+pub struct View(pub u8, pub u8, pub Num, pub u8, pub u16);
+
+fn data_row(a: Arrived) -> u8
+    ensures { λ r. ⌜ r ≡ dataRowOf a ⌝ }
+{
+    match a {
+        Arrived::INS => rows::DATA_INS,
+        Arrived::NM => rows::DATA_NM,
+        Arrived::Other(_) => rows::DATA_OTHER,
+        Arrived::Short => rows::DATA_OTHER,
+        Arrived::Long => rows::DATA_LONG,
+    }
+}
+
+fn t3_row(c1: u16) -> u8
+    ensures { λ r. ⌜ r ≡ t3RowOf c1 ⌝ }
+{
+    if c1 == 0 {
+        rows::T3_EXPIRES_C1_0
+    } else {
+        rows::T3_EXPIRES
+    }
+}
+
+fn view_of(e: Event, c1: u16) -> View
+    ensures { λ r. ⌜ r ≡ viewOf e c1 ⌝ }
+{
+    match e {
+        Event::Message => View(rows::MESSAGE_FOR_TRANSMISSION, 0, ZERO, 0, 0),
+        Event::Emergency => View(rows::EMERGENCY, 0, ZERO, 0, 0),
+        Event::EmergencyCeases => View(rows::EMERGENCY_CEASES, 0, ZERO, 0, 0),
+        Event::Stop => View(rows::STOP, 0, ZERO, 0, 0),
+        Event::Start => View(rows::START, 0, ZERO, 0, 0),
+        Event::RetrieveBsnt => View(rows::RETRIEVE_BSNT, 0, ZERO, 0, 0),
+        Event::Retrieval(n) => View(rows::RETRIEVAL_REQUEST_AND_FSNC, 0, n, 0, 0),
+        Event::FlushBuffers => View(rows::FLUSH_BUFFERS, 0, ZERO, 0, 0),
+        Event::Continue => View(rows::CONTINUE, 0, ZERO, 0, 0),
+        Event::EstablishIndication(p) => View(rows::ESTABLISH_INDICATION, p, ZERO, 0, 0),
+        Event::EstablishConfirm(p) => View(rows::ESTABLISH_CONFIRM, p, ZERO, 0, 0),
+        Event::ReleaseIndication { field, source } => View(
+            rows::RELEASE_INDICATION,
+            field,
+            ZERO,
+            source,
+            0,
+        ),
+        Event::ReleaseConfirm => View(rows::RELEASE_CONFIRM, 0, ZERO, 0, 0),
+        Event::Data(a, n) => View(data_row(a), 0, n, 0, 0),
+        Event::Resync => View(rows::RESYNC, 0, ZERO, 0, 0),
+        Event::Recover => View(rows::RECOVER, 0, ZERO, 0, 0),
+        Event::UnitData => View(rows::UNITDATA, 0, ZERO, 0, 0),
+        Event::Retrieve { len } => View(rows::RETRIEVE, 0, ZERO, 0, len),
+        Event::RetrieveComplete => View(rows::RETRIEVE_COMPLETE, 0, ZERO, 0, 0),
+        Event::ProvingUnsuccessful => View(rows::PROVING_UNSUCCESSFUL, 0, ZERO, 0, 0),
+        Event::Release => View(rows::RELEASE, 0, ZERO, 0, 0),
+        Event::Outage => View(rows::OUTAGE, 0, ZERO, 0, 0),
+        Event::Recovered => View(rows::RECOVERED, 0, ZERO, 0, 0),
+        Event::ForceProving => View(rows::FORCE_PROVING, 0, ZERO, 0, 0),
+        Event::ForceEmergency => View(rows::FORCE_EMERGENCY, 0, ZERO, 0, 0),
+        Event::ClearForceModes => View(rows::CLEAR_FORCE_MODES, 0, ZERO, 0, 0),
+        Event::Congestion(p) => View(rows::CONGESTION, p, ZERO, 0, 0),
+        Event::CongestionCeased => View(rows::CONGESTION_CEASED, 0, ZERO, 0, 0),
+        Event::T1 => View(rows::T1_EXPIRES, 0, ZERO, 0, 0),
+        Event::T2 => View(rows::T2_EXPIRES, 0, ZERO, 0, 0),
+        Event::T3 => View(t3_row(c1), 0, ZERO, 0, 0),
+    }
+}
+
+// A field that asks for proving one way or the other.
+fn em_or_nm(field: u8) -> bool
+    ensures { λ r. ⌜ r ≡ named field ⌝ }
+{
+    if field == unit::EM {
+        true
+    } else {
+        field == unit::NM
+    }
+}
+
+fn facts_of(l: Link, v: View) -> Facts
+    ensures { λ r. ⌜ r ≡ factsOf l v ⌝ }
+{
+    Facts {
+        lpo: l.lpo,
+        ins: l.ins,
+        uu: em_or_nm(v.1),
+        user: v.3 == 0,
+        bsnt: l.bsnt.known,
+        long: 4 < v.4,
+    }
+}
+
+fn flag_after(x: u8, old: bool) -> bool
+    ensures { λ r. ⌜ r ≡ over (flagOp x) old ⌝ }
+{
+    if x == effects::K {
+        old
+    } else {
+        x == effects::ON
+    }
+}
+
+fn mps_after(x: u8, old: Mps) -> Mps
+    ensures { λ r. ⌜ r ≡ over (mpsOp x) old ⌝ }
+{
+    match x {
+        effects::MPS_N => Mps::Neutral,
+        effects::MPS_NM => Mps::Normal,
+        effects::MPS_EM => Mps::Emergency,
+        _ => old,
+    }
+}
+
+fn ups_after(x: u8, old: Ups) -> Ups
+    ensures { λ r. ⌜ r ≡ over (upsOp x) old ⌝ }
+{
+    match x {
+        effects::UPS_NM => Ups::Normal,
+        effects::UPS_EM => Ups::Emergency,
+        _ => old,
+    }
+}
+
+fn state_after(x: u8, old: State) -> State
+    ensures { λ r. ⌜ r ≡ over (stateOp x) old ⌝ }
+{
+    match x {
+        effects::TO_111 => State::S111,
+        effects::TO_141 => State::S141,
+        effects::TO_212 => State::S212,
+        effects::TO_222 => State::S222,
+        effects::TO_242 => State::S242,
+        effects::TO_2103 => State::S2103,
+        effects::TO_2104 => State::S2104,
+        effects::TO_3105 => State::S3105,
+        _ => old,
+    }
+}
+
+fn bsnt_after(x: u8, n: Num, old: Bsnt) -> Bsnt
+    ensures { λ r. ⌜ r ≡ cond (takesOp x) (taken n) old ⌝ }
+{
+    if x == effects::TAKEN {
+        Bsnt {
+            known: true,
+            num: n,
+        }
+    } else {
+        old
+    }
+}
+
+fn one_less(c1: u16) -> u16
+    ensures { λ r. ⌜ r ≡ c1 - 1 ⌝ }
+{
+    if c1 == 0 { 0 } else { c1 - 1 }
+}
+
+fn c1_after(x: u8, l: Link, field: u8) -> u16
+    ensures { λ r. ⌜ r ≡ counted (countOp x) field l ⌝ }
+{
+    let mps = l.mps;
+    let ups = l.ups;
+    match x {
+        effects::DECIDED => unit::generate_n1(mps, ups, field, l.n1),
+        effects::LESS => one_less(l.c1),
+        _ => l.c1,
+    }
+}
+
+// The record after what a cell does to it.
+fn applied(c: Change, v: View, l: Link) -> Link
+    ensures { λ r. ⌜ r ≡ with-state (over (stateOp (c .0)) (l .state)) (summedUp (changed c) (v .1) (v .2) l) ⌝ }
+{
+    let state = l.state;
+    let mps = l.mps;
+    let ups = l.ups;
+    let bsnt = l.bsnt;
+    let num = v.2;
+    Link {
+        state: state_after(c.0, state),
+        ins: flag_after(c.1, l.ins),
+        lpo: flag_after(c.2, l.lpo),
+        mps: mps_after(c.3, mps),
+        ups: ups_after(c.4, ups),
+        t1: flag_after(c.5, l.t1),
+        t2: flag_after(c.6, l.t2),
+        t3: flag_after(c.7, l.t3),
+        bsnt: bsnt_after(c.9, num, bsnt),
+        c1: c1_after(c.8, l, v.1),
+        n1: l.n1,
+    }
+}
+
+// What a step says: the signals of its cell, and what they take from the event and from the link as the event found it.
+pub struct Said {
+    // The signals of the cell, as effects.rt of table6 numbers them.
+    pub words: u64,
+    pub param: u8,
+    pub num: Num,
+    pub mps: Mps,
+    pub ups: Ups,
+    pub bsnt: Num,
+}
+
+pub enum Answer {
+    Illegal,
+    Legal(Link, Said),
+}
+
+// One event for one link.
+pub fn step(l: Link, e: Event) -> Answer
+    ensures { λ r. ⌜ heard r ≡ stepOf l e ⌝ }
+{
+    let v = view_of(e, l.c1);
+    let f = facts_of(l, v);
+    let state = l.state;
+    match table6::cell(v.0, state, f) {
+        Met::Illegal => Answer::Illegal,
+        Met::Does(change, words) => {
+            let next = applied(change, v, l);
+            let num = v.2;
+            let mps = l.mps;
+            let ups = l.ups;
+            let bsnt = l.bsnt.num;
+            let said = Said {
+                words: words,
+                param: v.1,
+                num: num,
+                mps: mps,
+                ups: ups,
+                bsnt: bsnt,
+            };
+            Answer::Legal(next, said)
+        }
+    }
+}
