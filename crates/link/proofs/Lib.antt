@@ -1,2 +1,6 @@
+pub mod Expiries
+pub mod Kept
+pub mod OneAnswer
 pub mod Performed
 pub mod Spoken
+pub mod Twelve

@@ -133,8 +133,12 @@ met-there : (l : Link) (v : View) → outcomeOf l (meetingOf v) (met (v .0) (l .
 unfolding met
 met-there l v = as-performed l (meetingOf v) (chosen (facts l (meetingOf v)) (cell (printed (facts l (meetingOf v)) (heading (v .0) .row)) (l .state)))
 
+-- what an event does, from the summed-up cell that its view meets
+pub as-met : (l : Link) (e : Event) →
+    outcomeOf l (meetingOf (viewOf e (l .c1))) (met (viewOf e (l .c1) .0) (l .state) (factsOf l (viewOf e (l .c1)))) ≡ stepOf l e
+unfolding stepOf
+as-met l e = met-there l (viewOf e (l .c1)) ∙ ap (at-meeting l) (shown e (l .c1))
+
 pub stepped : (l : Link) (e : Event) (v : View) (f : Facts) (r : Met) → v ≡ viewOf e (l .c1) → f ≡ factsOf l v → metAs (l .state) r ≡ met (v .0) (l .state) f →
     outcomeOf l (meetingOf v) (metAs (l .state) r) ≡ stepOf l e
-unfolding stepOf
-stepped l e v f r ev ef er =
-    ap (outcomeOf l (meetingOf v)) (er ∙ ap (met (v .0) (l .state)) ef) ∙ met-there l v ∙ ap (at-meeting l) (ap meetingOf ev ∙ shown e (l .c1))
+stepped l e v f r ev ef er = rw (er, ef, ev) (as-met l e)

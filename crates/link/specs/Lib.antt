@@ -2,3 +2,6 @@ pub mod Effect
 pub mod Signal
 pub mod Step
 pub mod Stored
+pub mod Twelve
+pub mod Expiries
+pub mod Kept

@@ -1,2 +1,4 @@
+pub mod Every
 pub mod Lists
+pub mod OneAnswer
 pub mod Stored

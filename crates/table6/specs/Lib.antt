@@ -5,3 +5,4 @@ pub mod Order
 pub mod Summary
 pub mod Rows
 pub mod Stored
+pub mod Every

@@ -23,7 +23,7 @@ use Rattle.unit.proofs.sscop_uu.Kinds as sscop-uu-kinds
 use Rattle.unit.proofs.sscop_uu.Reads as sscop-uu
 
 -- a promise that says what the answer equals
-equal : {A : Type 0} {what x y : A} → x ≡ what → y ≡ what → x ≡ y
+pub equal : {A : Type 0} {what x y : A} → x ≡ what → y ≡ what → x ≡ y
 equal p q = p ∙ sym q
 
 pub status-code-one : OneAnswer status-code-kinds.ps status-code-kinds.r status-code.Post

@@ -1,0 +1,107 @@
+-- The tests over the whole table, computed, and the law that turns such a test into what holds of a choice. Assumes nothing.
+use mathlib.Core.Path.{_≡_, refl, sym, ap, _∙_}
+use mathlib.Core.Bool.{Bool, true, false, cond, _&&_, and-eq-true-iff}
+use mathlib.Core.List.{List, [], _∷_, _++_, append-assoc, append-nil}
+use Prim.Native.Nat.{ℕ, zero, suc}
+use lib.ListN.{getD}
+use Rattle.table6.specs.declared.State.{State}
+use Rattle.table6.specs.declared.Facts.{Facts}
+use Rattle.table6.specs.Cell.{Act, holds, Cell, Illegal, to, _⨟_, IF_THEN_ELSE_, Row, cell, Choice, illegal, does, after, chosen}
+use Rattle.table6.specs.Table6.{AAL-MESSAGE-FOR-TRANSMISSION-request, AAL-EMERGENCY-request, AAL-EMERGENCY-CEASES-request, AAL-STOP-request, AAL-START-request, AAL-RETRIEVE-BSNT-request, AAL-RETRIEVAL-REQUEST-AND-FSNC-request, AAL-FLUSH-BUFFERS-request, AAL-CONTINUE-request, AA-ESTABLISH-indication-with-EM-NM, AA-ESTABLISH-indication-with-others, AA-ESTABLISH-confirm-with-EM-NM, AA-ESTABLISH-confirm-with-others, AA-RELEASE-indication-from-User, AA-RELEASE-indication-from-SSCOP, AA-RELEASE-confirm, AA-DATA-indication-with-INS, AA-DATA-indication-with-NM, AA-DATA-indication-with-other, AA-DATA-indication-with-MU>4, AA-RESYNC-indication, AA-RECOVER-indication, AA-UNITDATA-indication, AA-RETRIEVE-indication, AA-RETRIEVE-COMPLETE-indication, MAAL-PROVING-UNSUCCESSFUL-response, MAAL-RELEASE-request, MAAL-LOCAL-PROCESSOR-OUTAGE-request, MAAL-LOCAL-PROCESSOR-RECOVERED-request, MAAL-FORCE-PROVING-request, MAAL-FORCE-EMERGENCY-request, MAAL-CLEAR-FORCE-MODES-request, Local-Congestion, Local-Congestion-Ceased, T1-expires, T2-expires, T3-expires-and-C1>0, T3-expires-and-C1=0}
+use Rattle.table6.specs.Rows.{Printed, one, two, printed, Heading, rows, nowhere, heading}
+use Rattle.table6.specs.Every.{Test, in-cell, in-states, in-row, in-printed, in-rows, Every, stop, but-stop, five, in-service, out-of-service, not-told, release, response, proving}
+
+pub at-most-five : Every five
+unfolding AAL-MESSAGE-FOR-TRANSMISSION-request AAL-EMERGENCY-request AAL-EMERGENCY-CEASES-request AAL-STOP-request AAL-START-request AAL-RETRIEVE-BSNT-request AAL-RETRIEVAL-REQUEST-AND-FSNC-request AAL-FLUSH-BUFFERS-request AAL-CONTINUE-request AA-ESTABLISH-indication-with-EM-NM AA-ESTABLISH-indication-with-others AA-ESTABLISH-confirm-with-EM-NM AA-ESTABLISH-confirm-with-others AA-RELEASE-indication-from-User AA-RELEASE-indication-from-SSCOP AA-RELEASE-confirm AA-DATA-indication-with-INS AA-DATA-indication-with-NM AA-DATA-indication-with-other AA-DATA-indication-with-MU>4 AA-RESYNC-indication AA-RECOVER-indication AA-UNITDATA-indication AA-RETRIEVE-indication AA-RETRIEVE-COMPLETE-indication MAAL-PROVING-UNSUCCESSFUL-response MAAL-RELEASE-request MAAL-LOCAL-PROCESSOR-OUTAGE-request MAAL-LOCAL-PROCESSOR-RECOVERED-request MAAL-FORCE-PROVING-request MAAL-FORCE-EMERGENCY-request MAAL-CLEAR-FORCE-MODES-request Local-Congestion Local-Congestion-Ceased T1-expires T2-expires T3-expires-and-C1>0 T3-expires-and-C1=0
+at-most-five = refl
+
+pub in-service-said : Every in-service
+unfolding AAL-MESSAGE-FOR-TRANSMISSION-request AAL-EMERGENCY-request AAL-EMERGENCY-CEASES-request AAL-STOP-request AAL-START-request AAL-RETRIEVE-BSNT-request AAL-RETRIEVAL-REQUEST-AND-FSNC-request AAL-FLUSH-BUFFERS-request AAL-CONTINUE-request AA-ESTABLISH-indication-with-EM-NM AA-ESTABLISH-indication-with-others AA-ESTABLISH-confirm-with-EM-NM AA-ESTABLISH-confirm-with-others AA-RELEASE-indication-from-User AA-RELEASE-indication-from-SSCOP AA-RELEASE-confirm AA-DATA-indication-with-INS AA-DATA-indication-with-NM AA-DATA-indication-with-other AA-DATA-indication-with-MU>4 AA-RESYNC-indication AA-RECOVER-indication AA-UNITDATA-indication AA-RETRIEVE-indication AA-RETRIEVE-COMPLETE-indication MAAL-PROVING-UNSUCCESSFUL-response MAAL-RELEASE-request MAAL-LOCAL-PROCESSOR-OUTAGE-request MAAL-LOCAL-PROCESSOR-RECOVERED-request MAAL-FORCE-PROVING-request MAAL-FORCE-EMERGENCY-request MAAL-CLEAR-FORCE-MODES-request Local-Congestion Local-Congestion-Ceased T1-expires T2-expires T3-expires-and-C1>0 T3-expires-and-C1=0
+in-service-said = refl
+
+pub release-said : Every release
+unfolding AAL-MESSAGE-FOR-TRANSMISSION-request AAL-EMERGENCY-request AAL-EMERGENCY-CEASES-request AAL-STOP-request AAL-START-request AAL-RETRIEVE-BSNT-request AAL-RETRIEVAL-REQUEST-AND-FSNC-request AAL-FLUSH-BUFFERS-request AAL-CONTINUE-request AA-ESTABLISH-indication-with-EM-NM AA-ESTABLISH-indication-with-others AA-ESTABLISH-confirm-with-EM-NM AA-ESTABLISH-confirm-with-others AA-RELEASE-indication-from-User AA-RELEASE-indication-from-SSCOP AA-RELEASE-confirm AA-DATA-indication-with-INS AA-DATA-indication-with-NM AA-DATA-indication-with-other AA-DATA-indication-with-MU>4 AA-RESYNC-indication AA-RECOVER-indication AA-UNITDATA-indication AA-RETRIEVE-indication AA-RETRIEVE-COMPLETE-indication MAAL-PROVING-UNSUCCESSFUL-response MAAL-RELEASE-request MAAL-LOCAL-PROCESSOR-OUTAGE-request MAAL-LOCAL-PROCESSOR-RECOVERED-request MAAL-FORCE-PROVING-request MAAL-FORCE-EMERGENCY-request MAAL-CLEAR-FORCE-MODES-request Local-Congestion Local-Congestion-Ceased T1-expires T2-expires T3-expires-and-C1>0 T3-expires-and-C1=0
+release-said = refl
+
+pub response-said : Every response
+unfolding AAL-MESSAGE-FOR-TRANSMISSION-request AAL-EMERGENCY-request AAL-EMERGENCY-CEASES-request AAL-STOP-request AAL-START-request AAL-RETRIEVE-BSNT-request AAL-RETRIEVAL-REQUEST-AND-FSNC-request AAL-FLUSH-BUFFERS-request AAL-CONTINUE-request AA-ESTABLISH-indication-with-EM-NM AA-ESTABLISH-indication-with-others AA-ESTABLISH-confirm-with-EM-NM AA-ESTABLISH-confirm-with-others AA-RELEASE-indication-from-User AA-RELEASE-indication-from-SSCOP AA-RELEASE-confirm AA-DATA-indication-with-INS AA-DATA-indication-with-NM AA-DATA-indication-with-other AA-DATA-indication-with-MU>4 AA-RESYNC-indication AA-RECOVER-indication AA-UNITDATA-indication AA-RETRIEVE-indication AA-RETRIEVE-COMPLETE-indication MAAL-PROVING-UNSUCCESSFUL-response MAAL-RELEASE-request MAAL-LOCAL-PROCESSOR-OUTAGE-request MAAL-LOCAL-PROCESSOR-RECOVERED-request MAAL-FORCE-PROVING-request MAAL-FORCE-EMERGENCY-request MAAL-CLEAR-FORCE-MODES-request Local-Congestion Local-Congestion-Ceased T1-expires T2-expires T3-expires-and-C1>0 T3-expires-and-C1=0
+response-said = refl
+
+pub proving-said : Every proving
+unfolding AAL-MESSAGE-FOR-TRANSMISSION-request AAL-EMERGENCY-request AAL-EMERGENCY-CEASES-request AAL-STOP-request AAL-START-request AAL-RETRIEVE-BSNT-request AAL-RETRIEVAL-REQUEST-AND-FSNC-request AAL-FLUSH-BUFFERS-request AAL-CONTINUE-request AA-ESTABLISH-indication-with-EM-NM AA-ESTABLISH-indication-with-others AA-ESTABLISH-confirm-with-EM-NM AA-ESTABLISH-confirm-with-others AA-RELEASE-indication-from-User AA-RELEASE-indication-from-SSCOP AA-RELEASE-confirm AA-DATA-indication-with-INS AA-DATA-indication-with-NM AA-DATA-indication-with-other AA-DATA-indication-with-MU>4 AA-RESYNC-indication AA-RECOVER-indication AA-UNITDATA-indication AA-RETRIEVE-indication AA-RETRIEVE-COMPLETE-indication MAAL-PROVING-UNSUCCESSFUL-response MAAL-RELEASE-request MAAL-LOCAL-PROCESSOR-OUTAGE-request MAAL-LOCAL-PROCESSOR-RECOVERED-request MAAL-FORCE-PROVING-request MAAL-FORCE-EMERGENCY-request MAAL-CLEAR-FORCE-MODES-request Local-Congestion Local-Congestion-Ceased T1-expires T2-expires T3-expires-and-C1>0 T3-expires-and-C1=0
+proving-said = refl
+
+pub out-of-service-said : in-rows out-of-service but-stop ≡ true
+unfolding AAL-MESSAGE-FOR-TRANSMISSION-request AAL-EMERGENCY-request AAL-EMERGENCY-CEASES-request AAL-STOP-request AAL-START-request AAL-RETRIEVE-BSNT-request AAL-RETRIEVAL-REQUEST-AND-FSNC-request AAL-FLUSH-BUFFERS-request AAL-CONTINUE-request AA-ESTABLISH-indication-with-EM-NM AA-ESTABLISH-indication-with-others AA-ESTABLISH-confirm-with-EM-NM AA-ESTABLISH-confirm-with-others AA-RELEASE-indication-from-User AA-RELEASE-indication-from-SSCOP AA-RELEASE-confirm AA-DATA-indication-with-INS AA-DATA-indication-with-NM AA-DATA-indication-with-other AA-DATA-indication-with-MU>4 AA-RESYNC-indication AA-RECOVER-indication AA-UNITDATA-indication AA-RETRIEVE-indication AA-RETRIEVE-COMPLETE-indication MAAL-PROVING-UNSUCCESSFUL-response MAAL-RELEASE-request MAAL-LOCAL-PROCESSOR-OUTAGE-request MAAL-LOCAL-PROCESSOR-RECOVERED-request MAAL-FORCE-PROVING-request MAAL-FORCE-EMERGENCY-request MAAL-CLEAR-FORCE-MODES-request Local-Congestion Local-Congestion-Ceased T1-expires T2-expires T3-expires-and-C1>0 T3-expires-and-C1=0
+out-of-service-said = refl
+
+pub stop-not-told : in-rows not-told stop ≡ true
+unfolding AAL-STOP-request
+stop-not-told = refl
+
+-- a test holds of a choice, behind the actions read so far
+abbrev pub Holds : (List Act → State → Bool) → List Act → Choice → Type 0
+Holds t acts illegal = Unit {0}
+Holds t acts (does more next) = t (acts ++ more) next ≡ true
+
+one-more : (t : List Act → State → Bool) (acts : List Act) (a : Act) (x : Choice) → Holds t (acts ++ a ∷ []) x → Holds t acts (after a x)
+one-more t acts a illegal h = tt
+one-more t acts a (does more next) h = rw append-assoc at h
+
+either : (t : List Act → State → Bool) (acts : List Act) (b : Bool) (x y : Choice) → Holds t acts x → Holds t acts y → Holds t acts (cond b x y)
+either t acts true x y p q = p
+either t acts false x y p q = q
+
+of-cell : (t : List Act → State → Bool) (acts : List Act) (c : Cell) (f : Facts) → in-cell t acts c ≡ true → Holds t acts (chosen f c)
+of-cell t acts Illegal f h = tt
+of-cell t acts (to next) f h = rw append-nil h
+of-cell t acts (a ⨟ c) f h = one-more t acts a (chosen f c) (of-cell t (acts ++ a ∷ []) c f h)
+of-cell t acts (IF q THEN c ELSE d) f h =
+    let p = and-eq-true-iff (in-cell t acts c) (in-cell t acts d) .0 h in
+    either t acts (holds q f) (chosen f c) (chosen f d) (of-cell t acts c f (p .0)) (of-cell t acts d f (p .1))
+
+left : (a b : Bool) → a && b ≡ true → a ≡ true
+left a b h = and-eq-true-iff a b .0 h .0
+
+right : (a b : Bool) → a && b ≡ true → b ≡ true
+right a b h = and-eq-true-iff a b .0 h .1
+
+of-states : (g : State → Bool) → in-states g ≡ true → (s : State) → g s ≡ true
+of-states g h State.S111 = left (g State.S111) _ h
+of-states g h State.S141 = left (g State.S141) _ (right (g State.S111) _ h)
+of-states g h State.S212 = left (g State.S212) _ (right (g State.S141) _ (right (g State.S111) _ h))
+of-states g h State.S222 = left (g State.S222) _ (right (g State.S212) _ (right (g State.S141) _ (right (g State.S111) _ h)))
+of-states g h State.S242 = left (g State.S242) _ (right (g State.S222) _ (right (g State.S212) _ (right (g State.S141) _ (right (g State.S111) _ h))))
+of-states g h State.S2103 = left (g State.S2103) _ (right (g State.S242) _ (right (g State.S222) _ (right (g State.S212) _ (right (g State.S141) _ (right (g State.S111) _ h)))))
+of-states g h State.S2104 = left (g State.S2104) _ (right (g State.S2103) _ (right (g State.S242) _ (right (g State.S222) _ (right (g State.S212) _ (right (g State.S141) _ (right (g State.S111) _ h))))))
+of-states g h State.S3105 = right (g State.S2104) _ (right (g State.S2103) _ (right (g State.S242) _ (right (g State.S222) _ (right (g State.S212) _ (right (g State.S141) _ (right (g State.S111) _ h))))))
+
+of-row : (t : Test) (r : Row) → in-row t r ≡ true → (s : State) (f : Facts) → Holds (t s) [] (chosen f (cell r s))
+of-row t r h s f = of-cell (t s) [] (cell r s) f (of-states (λ s. in-cell (t s) [] (cell r s)) h s)
+
+by-fact : (t : Test) (b : Bool) (r q : Row) → in-row t r ≡ true → in-row t q ≡ true → (s : State) (f : Facts) → Holds (t s) [] (chosen f (cell (cond b r q) s))
+by-fact t true r q p h s f = of-row t r p s f
+by-fact t false r q p h s f = of-row t q h s f
+
+of-printed : (t : Test) (p : Printed) → in-printed t p ≡ true → (s : State) (f : Facts) → Holds (t s) [] (chosen f (cell (printed f p) s))
+of-printed t (one r) h s f = of-row t r h s f
+of-printed t (two q r w) h s f = by-fact t (holds q f) r w (left (in-row t r) (in-row t w) h) (right (in-row t r) (in-row t w) h) s f
+
+no-row : (t : Test) (s : State) (f : Facts) → Holds (t s) [] (chosen f (cell (printed f (nowhere .row)) s))
+no-row t State.S111 f = tt
+no-row t State.S141 f = tt
+no-row t State.S212 f = tt
+no-row t State.S222 f = tt
+no-row t State.S242 f = tt
+no-row t State.S2103 f = tt
+no-row t State.S2104 f = tt
+no-row t State.S3105 f = tt
+
+of-rows : (t : Test) (hs : List Heading) → in-rows t hs ≡ true → (row : ℕ) (s : State) (f : Facts) → Holds (t s) [] (chosen f (cell (printed f (getD hs row nowhere .row)) s))
+of-rows t [] h row s f = no-row t s f
+of-rows t (x ∷ hs) h zero s f = of-printed t (x .row) (left (in-printed t (x .row)) (in-rows t hs) h) s f
+of-rows t (x ∷ hs) h (suc row) s f = of-rows t hs (right (in-printed t (x .row)) (in-rows t hs) h) row s f
+
+-- what every cell passes holds of what the facts choose, in any row and state
+pub of-choice : (t : Test) → Every t → (row : ℕ) (s : State) (f : Facts) → Holds (t s) [] (chosen f (cell (printed f (heading row .row)) s))
+of-choice t h row s f = of-rows t rows h row s f
