@@ -252,10 +252,10 @@ fn bsnt_after(x: u8, n: Num, old: Bsnt) -> Bsnt
     }
 }
 
-fn one_less(c1: u16) -> u16
-    ensures { λ r. ⌜ r ≡ c1 - 1 ⌝ }
+fn one_less(c: u16) -> u16
+    ensures { λ r. ⌜ r ≡ c - 1 ⌝ }
 {
-    if c1 == 0 { 0 } else { c1 - 1 }
+    if c == 0 { 0 } else { c - 1 }
 }
 
 fn c1_after(x: u8, l: Link, field: u8) -> u16

@@ -76,8 +76,12 @@ AAL-MESSAGE-FOR-TRANSMISSION-request = record {
 -- AAL-RETRIEVE_BSNT-request
 unfoldable pub AAL-RETRIEVE-BSNT-request : Row
 AAL-RETRIEVE-BSNT-request = record {
-  1/1/1 = IF BSNT-available THEN AAL-BSNT-confirm ⨟ to 1/1/1 ELSE AAL-BSNT-NOT-RETRIEVABLE-confirm ⨟ to 1/1/1;
-  1/4/1 = IF BSNT-available THEN AAL-BSNT-confirm ⨟ to 1/4/1 ELSE AAL-BSNT-NOT-RETRIEVABLE-confirm ⨟ to 1/4/1;
+  1/1/1 =
+      IF BSNT-available THEN AAL-BSNT-confirm ⨟ to 1/1/1
+      ELSE AAL-BSNT-NOT-RETRIEVABLE-confirm ⨟ to 1/1/1;
+  1/4/1 =
+      IF BSNT-available THEN AAL-BSNT-confirm ⨟ to 1/4/1
+      ELSE AAL-BSNT-NOT-RETRIEVABLE-confirm ⨟ to 1/4/1;
   2/1/2 = Illegal;
   2/2/2 = Illegal;
   2/4/2 = Illegal;
@@ -128,7 +132,9 @@ AAL-CONTINUE-request = record {
 -- AA-ESTABLISH-indication with SSCOP-UU = EM, NM
 unfoldable pub AA-ESTABLISH-indication-with-EM-NM : Row
 AA-ESTABLISH-indication-with-EM-NM = record {
-  1/1/1 = IF LPO=0 THEN AA-RELEASE-request OOS ⨟ to 1/1/1 ELSE AA-RELEASE-request PO ⨟ to 1/1/1;
+  1/1/1 =
+      IF LPO=0 THEN AA-RELEASE-request OOS ⨟ to 1/1/1
+      ELSE AA-RELEASE-request PO ⨟ to 1/1/1;
   1/4/1 = Illegal;
   2/1/2 = AA-ESTABLISH-response ⨟ MAAL-PROVING-indication ⨟ Reset T1 ⨟ Generate-N1 ⨟ Set-C1=N1 ⨟ Set T3 ⨟ Reset-INS-flag ⨟ to 2/10/3;
   2/2/2 = Illegal;
@@ -141,7 +147,9 @@ AA-ESTABLISH-indication-with-EM-NM = record {
 -- AA-ESTABLISH-indication with SSCOP-UU = others
 unfoldable pub AA-ESTABLISH-indication-with-others : Row
 AA-ESTABLISH-indication-with-others = record {
-  1/1/1 = IF LPO=0 THEN AA-RELEASE-request OOS ⨟ to 1/1/1 ELSE AA-RELEASE-request PO ⨟ to 1/1/1;
+  1/1/1 =
+      IF LPO=0 THEN AA-RELEASE-request OOS ⨟ to 1/1/1
+      ELSE AA-RELEASE-request PO ⨟ to 1/1/1;
   1/4/1 = Illegal;
   2/1/2 = AA-RELEASE-request PE ⨟ MAAL-REPORT-indication LR – PE ⨟ to 2/1/2;
   2/2/2 = Illegal;
@@ -310,8 +318,12 @@ AA-UNITDATA-indication = record {
 -- AA-RETRIEVE-indication
 unfoldable pub AA-RETRIEVE-indication : Row
 AA-RETRIEVE-indication = record {
-  1/1/1 = IF MU>4 THEN AAL-RETRIEVED-MESSAGES-indication ⨟ to 1/1/1 ELSE to 1/1/1;
-  1/4/1 = IF MU>4 THEN AAL-RETRIEVED-MESSAGES-indication ⨟ to 1/4/1 ELSE to 1/4/1;
+  1/1/1 =
+      IF MU>4 THEN AAL-RETRIEVED-MESSAGES-indication ⨟ to 1/1/1
+      ELSE to 1/1/1;
+  1/4/1 =
+      IF MU>4 THEN AAL-RETRIEVED-MESSAGES-indication ⨟ to 1/4/1
+      ELSE to 1/4/1;
   2/1/2 = Illegal;
   2/2/2 = Illegal;
   2/4/2 = Illegal;
@@ -489,7 +501,7 @@ T3-expires-and-C1>0 = record {
   2/10/4 = Illegal;
 }
 
--- T3 expires and C1 = 0
+-- T3 expires and C1 = 0. The third condition that the paper prints, LPO = 1, is what the first two leave.
 unfoldable pub T3-expires-and-C1=0 : Row
 T3-expires-and-C1=0 = record {
   1/1/1 = Illegal;
@@ -498,6 +510,9 @@ T3-expires-and-C1=0 = record {
   2/2/2 = Illegal;
   2/4/2 = Illegal;
   3/10/5 = Illegal;
-  2/10/3 = IF LPO=0&INS=0 THEN MAAL-STOP-PROVING-indication ⨟ AA-DATA-request INS ⨟ to 2/10/4 ELSE IF LPO=0&INS=1 THEN MAAL-STOP-PROVING-indication ⨟ AA-DATA-request INS ⨟ MAAL-REPORT-indication – INS – ⨟ AAL-IN-SERVICE-indication ⨟ Reset T2 ⨟ to 3/10/5 ELSE AA-RELEASE-request PO ⨟ AAL-OUT-OF-SERVICE-indication ⨟ MAAL-REPORT-indication LR OOS – ⨟ MAAL-STOP-PROVING-indication ⨟ Reset T2 ⨟ Set-UPS=NM ⨟ to 1/4/1;
+  2/10/3 =
+      IF LPO=0&INS=0 THEN MAAL-STOP-PROVING-indication ⨟ AA-DATA-request INS ⨟ to 2/10/4
+      ELSE IF LPO=0&INS=1 THEN MAAL-STOP-PROVING-indication ⨟ AA-DATA-request INS ⨟ MAAL-REPORT-indication – INS – ⨟ AAL-IN-SERVICE-indication ⨟ Reset T2 ⨟ to 3/10/5
+      ELSE AA-RELEASE-request PO ⨟ AAL-OUT-OF-SERVICE-indication ⨟ MAAL-REPORT-indication LR OOS – ⨟ MAAL-STOP-PROVING-indication ⨟ Reset T2 ⨟ Set-UPS=NM ⨟ to 1/4/1;
   2/10/4 = Illegal;
 }
