@@ -3,6 +3,8 @@ use Prim.Native.Nat.{ℕ, suc}
 use mathlib.Core.Bool.{Bool, cond}
 use mathlib.Core.List.{List, [], _∷_}
 use lib.Dec.{eqb}
+use Rattle.unit.specs.declared.Status.{Status}
+use Rattle.unit.specs.Unit.{code, statuses}
 use Rattle.table6.specs.declared.State.{State}
 
 pub data Abbreviation : Type 0 where
@@ -39,10 +41,26 @@ abbrev pub place : List Abbreviation → Abbreviation → ℕ
 place [] a = 0
 place (x ∷ others) a = cond (is x a) 0 (suc (place others a))
 
--- Its number as a status field (clause 10 has no 6), and as the first, second and third value of a REPORT.
-abbrev pub field : Abbreviation → ℕ
-field = place (– ∷ OOS ∷ PO ∷ INS ∷ NM ∷ EM ∷ – ∷ ANS ∷ MI ∷ PE ∷ PNS ∷ [])
+-- Its number as a status field, which clause 10 gives.
+abbrev pub abbreviation : Status → Abbreviation
+abbreviation Status.OOS = OOS
+abbreviation Status.PO = PO
+abbreviation Status.INS = INS
+abbreviation Status.NM = NM
+abbreviation Status.EM = EM
+abbreviation Status.ANS = ANS
+abbreviation Status.MI = MI
+abbreviation Status.PE = PE
+abbreviation Status.PNS = PNS
 
+abbrev pub coded : List Status → Abbreviation → ℕ
+coded [] a = 0
+coded (s ∷ others) a = cond (is (abbreviation s) a) (code s) (coded others a)
+
+abbrev pub field : Abbreviation → ℕ
+field = coded statuses
+
+-- Its number as the first, second and third value of a REPORT.
 abbrev pub first : Abbreviation → ℕ
 first = place (– ∷ LR ∷ RR ∷ SR ∷ [])
 
