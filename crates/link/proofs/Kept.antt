@@ -11,7 +11,8 @@ use Rattle.unit.proofs.Proving.{at-most}
 use Rattle.table6.specs.Cell.{Act, cell, Choice, illegal, does, chosen}
 use Rattle.table6.specs.Order.{signals}
 use Rattle.table6.specs.Summary.{Count, same, decided, less, summary, still, sum}
-use Rattle.table6.specs.Rows.{printed, heading, met}
+use Rattle.table6.specs.Rows.{printed, heading}
+use Rattle.table6.specs.Stored.{met}
 use Rattle.table6.specs.Every.{five}
 use Rattle.table6.proofs.Every.{Holds, at-most-five, of-choice}
 use Rattle.link.specs.declared.Link.{Link}

@@ -10,8 +10,8 @@ use Rattle.table6.specs.declared.Met.{Met}
 use Rattle.table6.specs.Cell.{T1, T2, T3, Act, AAL-RECEIVED-MESSAGE-indication, AAL-LINK-CONGESTED-indication, AAL-LINK-CONGESTION-CEASED-indication, AAL-IN-SERVICE-indication, AAL-OUT-OF-SERVICE-indication, AAL-RETRIEVED-MESSAGES-indication, AAL-RETRIEVAL-COMPLETE-indication, AAL-BSNT-confirm, AAL-BSNT-NOT-RETRIEVABLE-confirm, AA-ESTABLISH-request, AA-ESTABLISH-response, AA-RELEASE-request, AA-DATA-request, AA-RECOVER-response, AA-RETRIEVE-request, MAAL-PROVING-indication, MAAL-STOP-PROVING-indication, MAAL-REPORT-indication, Set-UPS=NM, Set-UPS=EM, Set-MPS=N, Set-MPS=NM, Set-MPS=EM, Set-LPO=0, Set-LPO=1, Set-INS-flag, Reset-INS-flag, Generate-N1, Set-C1=N1, Decrement-C1, Set, Reset, connection-up, take-BSNT, end, cell, Choice, illegal, does, chosen}
 use Rattle.table6.specs.Order.{signals}
 use Rattle.table6.specs.Summary.{Summary, still, then, summary, Summed, refused, summed, sum}
-use Rattle.table6.specs.Rows.{Heading, heading, printed, met}
-use Rattle.table6.specs.Stored.{metAs}
+use Rattle.table6.specs.Rows.{Heading, heading, printed}
+use Rattle.table6.specs.Stored.{metAs, met}
 use Rattle.link.specs.declared.Num.{Num}
 use Rattle.link.specs.declared.Link.{Link}
 use Rattle.link.specs.declared.Event.{Event}

@@ -7,10 +7,10 @@ use Rattle.unit.specs.declared.Status.{Status}
 use Rattle.unit.specs.declared.Arrived.{Arrived}
 use Rattle.unit.specs.Unit.{code}
 use Rattle.table6.specs.declared.Facts.{Facts}
-use Rattle.table6.specs.Cell.{T1, T2, T3, Act, connection-up, take-BSNT, end, UU=EM-or-NM, Source=User, Row, cell, Choice, illegal, does, chosen}
-use Rattle.table6.specs.Table6.{AAL-MESSAGE-FOR-TRANSMISSION-request, AAL-EMERGENCY-request, AAL-EMERGENCY-CEASES-request, AAL-STOP-request, AAL-START-request, AAL-RETRIEVE-BSNT-request, AAL-RETRIEVAL-REQUEST-AND-FSNC-request, AAL-FLUSH-BUFFERS-request, AAL-CONTINUE-request, AA-ESTABLISH-indication-with-EM-NM, AA-ESTABLISH-indication-with-others, AA-ESTABLISH-confirm-with-EM-NM, AA-ESTABLISH-confirm-with-others, AA-RELEASE-indication-from-User, AA-RELEASE-indication-from-SSCOP, AA-RELEASE-confirm, AA-DATA-indication-with-INS, AA-DATA-indication-with-NM, AA-DATA-indication-with-other, AA-DATA-indication-with-MU>4, AA-RESYNC-indication, AA-RECOVER-indication, AA-UNITDATA-indication, AA-RETRIEVE-indication, AA-RETRIEVE-COMPLETE-indication, MAAL-PROVING-UNSUCCESSFUL-response, MAAL-RELEASE-request, MAAL-LOCAL-PROCESSOR-OUTAGE-request, MAAL-LOCAL-PROCESSOR-RECOVERED-request, MAAL-FORCE-PROVING-request, MAAL-FORCE-EMERGENCY-request, MAAL-CLEAR-FORCE-MODES-request, Local-Congestion, Local-Congestion-Ceased, T1-expires, T2-expires, T3-expires-and-C1>0, T3-expires-and-C1=0}
+use Rattle.table6.specs.Cell.{T1, T2, T3, Act, take-BSNT, end, cell, Choice, illegal, does, chosen}
+use Rattle.table6.specs.Table6.{AAL-MESSAGE-FOR-TRANSMISSION-request, AAL-EMERGENCY-request, AAL-EMERGENCY-CEASES-request, AAL-STOP-request, AAL-START-request, AAL-RETRIEVE-BSNT-request, AAL-RETRIEVAL-REQUEST-AND-FSNC-request, AAL-FLUSH-BUFFERS-request, AAL-CONTINUE-request, AA-RELEASE-confirm, AA-DATA-indication-with-INS, AA-DATA-indication-with-NM, AA-DATA-indication-with-other, AA-DATA-indication-with-MU>4, AA-RESYNC-indication, AA-RECOVER-indication, AA-UNITDATA-indication, AA-RETRIEVE-indication, AA-RETRIEVE-COMPLETE-indication, MAAL-PROVING-UNSUCCESSFUL-response, MAAL-RELEASE-request, MAAL-LOCAL-PROCESSOR-OUTAGE-request, MAAL-LOCAL-PROCESSOR-RECOVERED-request, MAAL-FORCE-PROVING-request, MAAL-FORCE-EMERGENCY-request, MAAL-CLEAR-FORCE-MODES-request, Local-Congestion, Local-Congestion-Ceased, T1-expires, T2-expires, T3-expires-and-C1>0, T3-expires-and-C1=0}
 use Rattle.table6.specs.Order.{signals}
-use Rattle.table6.specs.Rows.{Heading, plain, behind, two, printed}
+use Rattle.table6.specs.Rows.{Heading, plain, behind, AA-ESTABLISH-indication, AA-ESTABLISH-confirm, AA-RELEASE-indication, printed}
 use Rattle.link.specs.declared.Num.{Num}
 use Rattle.link.specs.declared.Link.{Link}
 use Rattle.link.specs.declared.Event.{Event}
@@ -33,6 +33,7 @@ meets h = record { heading = h; param = 0; number = none; source = 0; len = 0 }
 abbrev pub with-param : ℕ → Heading → Meeting
 with-param p h = record { heading = h; param = p; number = none; source = 0; len = 0 }
 
+-- The row of data by what arrived, and of a T3 expiry by C1.
 abbrev pub dataRow : Arrived → Heading
 dataRow Arrived.INS = behind take-BSNT AA-DATA-indication-with-INS
 dataRow Arrived.NM = behind take-BSNT AA-DATA-indication-with-NM
@@ -53,9 +54,9 @@ meeting event.RetrieveBsnt c1 = meets (plain AAL-RETRIEVE-BSNT-request)
 meeting (event.Retrieval n) c1 = record { heading = plain AAL-RETRIEVAL-REQUEST-AND-FSNC-request; param = 0; number = n; source = 0; len = 0 }
 meeting event.FlushBuffers c1 = meets (plain AAL-FLUSH-BUFFERS-request)
 meeting event.Continue c1 = meets (plain AAL-CONTINUE-request)
-meeting (event.EstablishIndication f) c1 = with-param f record { arrives = []; row = two UU=EM-or-NM AA-ESTABLISH-indication-with-EM-NM AA-ESTABLISH-indication-with-others }
-meeting (event.EstablishConfirm f) c1 = with-param f record { arrives = connection-up ∷ []; row = two UU=EM-or-NM AA-ESTABLISH-confirm-with-EM-NM AA-ESTABLISH-confirm-with-others }
-meeting (event.ReleaseIndication f s) c1 = record { heading = record { arrives = []; row = two Source=User AA-RELEASE-indication-from-User AA-RELEASE-indication-from-SSCOP }; param = f; number = none; source = s; len = 0 }
+meeting (event.EstablishIndication f) c1 = with-param f AA-ESTABLISH-indication
+meeting (event.EstablishConfirm f) c1 = with-param f AA-ESTABLISH-confirm
+meeting (event.ReleaseIndication f s) c1 = record { heading = AA-RELEASE-indication; param = f; number = none; source = s; len = 0 }
 meeting event.ReleaseConfirm c1 = meets (plain AA-RELEASE-confirm)
 meeting (event.Data a n) c1 = record { heading = dataRow a; param = 0; number = n; source = 0; len = 0 }
 meeting event.Resync c1 = meets (plain AA-RESYNC-indication)
@@ -76,9 +77,11 @@ meeting event.T1 c1 = meets (behind (end T1) T1-expires)
 meeting event.T2 c1 = meets (behind (end T2) T2-expires)
 meeting event.T3 c1 = meets (t3Row c1)
 
+-- A field that is EM or NM.
 abbrev pub named : ℕ → Bool
 named field = cond (eqb field (code Status.EM)) true (eqb field (code Status.NM))
 
+-- What the conditions of a cell ask.
 abbrev pub facts : Link → Meeting → Facts
 facts l m =
     record { lpo = l .lpo; ins = l .ins; uu = named (m .param); user = eqb (m .source) 0; bsnt = l .bsnt .known; long = ltb 4 (m .len) }
@@ -88,6 +91,7 @@ pub data Outcome : Type 0 where
   Illegal : Outcome
   Legal : Link → List Signal → Outcome
 
+-- A choice performed: first what the event does by itself, then the cell's actions.
 abbrev pub outcome : Link → Meeting → Choice → Outcome
 outcome l m illegal = Illegal
 outcome l m (does acts next) =

@@ -7,6 +7,10 @@ use table6::State;
 use table6::effects;
 use table6::effects::Change;
 use table6::rows;
+use unit::Arrived;
+use unit::Mps;
+use unit::Status;
+use unit::Ups;
 ghost use mathlib.Core.Path.{_≡_};
 ghost use mathlib.Core.Bool.{cond};
 ghost use Prim.Native.Nat.{_-_};
@@ -15,10 +19,6 @@ ghost use Rattle.table6.specs.Stored.{flagOp, mpsOp, upsOp, stateOp, countOp, t
 ghost use Rattle.link.specs.Effect.{with-state, taken};
 ghost use Rattle.link.specs.Step.{named, stepOf};
 ghost use Rattle.link.specs.Stored.{dataRowOf, t3RowOf, viewOf, factsOf, counted, summedUp, heard};
-use unit::Arrived;
-use unit::Mps;
-use unit::Status;
-use unit::Ups;
 
 // A number of 24 bits, its highest octet first; or the three values of a REPORT.
 pub struct Num {

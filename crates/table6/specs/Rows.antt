@@ -4,10 +4,8 @@ use Prim.Native.Nat.{ℕ}
 use mathlib.Core.Bool.{cond}
 use mathlib.Core.List.{List, [], _∷_}
 use lib.ListN.{getD}
-use Rattle.table6.specs.declared.State.{State}
 use Rattle.table6.specs.declared.Facts.{Facts}
-use Rattle.table6.specs.Cell.{Timer, T1, T2, T3, Act, connection-up, take-BSNT, end, Cond, UU=EM-or-NM, Source=User, holds, Illegal, Row, cell, chosen}
-use Rattle.table6.specs.Summary.{Summed, sum}
+use Rattle.table6.specs.Cell.{Timer, T1, T2, T3, Act, connection-up, take-BSNT, end, Cond, UU=EM-or-NM, Source=User, holds, Illegal, Row}
 use Rattle.table6.specs.Table6.{AAL-MESSAGE-FOR-TRANSMISSION-request, AAL-EMERGENCY-request, AAL-EMERGENCY-CEASES-request, AAL-STOP-request, AAL-START-request, AAL-RETRIEVE-BSNT-request, AAL-RETRIEVAL-REQUEST-AND-FSNC-request, AAL-FLUSH-BUFFERS-request, AAL-CONTINUE-request, AA-ESTABLISH-indication-with-EM-NM, AA-ESTABLISH-indication-with-others, AA-ESTABLISH-confirm-with-EM-NM, AA-ESTABLISH-confirm-with-others, AA-RELEASE-indication-from-User, AA-RELEASE-indication-from-SSCOP, AA-RELEASE-confirm, AA-DATA-indication-with-INS, AA-DATA-indication-with-NM, AA-DATA-indication-with-other, AA-DATA-indication-with-MU>4, AA-RESYNC-indication, AA-RECOVER-indication, AA-UNITDATA-indication, AA-RETRIEVE-indication, AA-RETRIEVE-COMPLETE-indication, MAAL-PROVING-UNSUCCESSFUL-response, MAAL-RELEASE-request, MAAL-LOCAL-PROCESSOR-OUTAGE-request, MAAL-LOCAL-PROCESSOR-RECOVERED-request, MAAL-FORCE-PROVING-request, MAAL-FORCE-EMERGENCY-request, MAAL-CLEAR-FORCE-MODES-request, Local-Congestion, Local-Congestion-Ceased, T1-expires, T2-expires, T3-expires-and-C1>0, T3-expires-and-C1=0}
 
 pub data Printed : Type 0 where
@@ -28,6 +26,16 @@ plain r = record { arrives = []; row = one r }
 abbrev pub behind : Act → Row → Heading
 behind a r = record { arrives = a ∷ []; row = one r }
 
+abbrev pub AA-ESTABLISH-indication : Heading
+AA-ESTABLISH-indication = record { arrives = []; row = two UU=EM-or-NM AA-ESTABLISH-indication-with-EM-NM AA-ESTABLISH-indication-with-others }
+
+abbrev pub AA-ESTABLISH-confirm : Heading
+AA-ESTABLISH-confirm = record { arrives = connection-up ∷ []; row = two UU=EM-or-NM AA-ESTABLISH-confirm-with-EM-NM AA-ESTABLISH-confirm-with-others }
+
+abbrev pub AA-RELEASE-indication : Heading
+AA-RELEASE-indication = record { arrives = []; row = two Source=User AA-RELEASE-indication-from-User AA-RELEASE-indication-from-SSCOP }
+
+-- In the order of document 01's event codes.
 abbrev pub rows : List Heading
 rows =
     plain AAL-MESSAGE-FOR-TRANSMISSION-request
@@ -39,9 +47,9 @@ rows =
     ∷ plain AAL-RETRIEVAL-REQUEST-AND-FSNC-request
     ∷ plain AAL-FLUSH-BUFFERS-request
     ∷ plain AAL-CONTINUE-request
-    ∷ (record { arrives = []; row = two UU=EM-or-NM AA-ESTABLISH-indication-with-EM-NM AA-ESTABLISH-indication-with-others })
-    ∷ (record { arrives = connection-up ∷ []; row = two UU=EM-or-NM AA-ESTABLISH-confirm-with-EM-NM AA-ESTABLISH-confirm-with-others })
-    ∷ (record { arrives = []; row = two Source=User AA-RELEASE-indication-from-User AA-RELEASE-indication-from-SSCOP })
+    ∷ AA-ESTABLISH-indication
+    ∷ AA-ESTABLISH-confirm
+    ∷ AA-RELEASE-indication
     ∷ plain AA-RELEASE-confirm
     ∷ behind take-BSNT AA-DATA-indication-with-INS
     ∷ behind take-BSNT AA-DATA-indication-with-NM
@@ -73,10 +81,3 @@ nowhere =
 
 abbrev pub heading : ℕ → Heading
 heading row = getD rows row nowhere
-
--- What the cell of a heading and a state does.
-abbrev pub meets : Heading → State → Facts → Summed
-meets h state f = sum (h .arrives) (chosen f (cell (printed f (h .row)) state))
-
-unfoldable pub met : ℕ → State → Facts → Summed
-met row = meets (heading row)

@@ -12,8 +12,9 @@ use Rattle.table6.specs.declared.Facts.{Facts}
 use Rattle.table6.specs.declared.Met.{Met}
 use Rattle.table6.specs.declared.effects.Change.{Change}
 use Rattle.table6.specs.Words.{–, OOS, PO, INS, NM, ANS, MI, PE, PNS, LR, RR, SR, ALN, CC, CD, SREC, UDR, PDUT, SSCOP-UU, Parameter-Data}
-use Rattle.table6.specs.Cell.{T1, T2, T3, Act, AAL-RECEIVED-MESSAGE-indication, AAL-LINK-CONGESTED-indication, AAL-LINK-CONGESTION-CEASED-indication, AAL-IN-SERVICE-indication, AAL-OUT-OF-SERVICE-indication, AAL-RETRIEVED-MESSAGES-indication, AAL-RETRIEVAL-COMPLETE-indication, AAL-BSNT-confirm, AAL-BSNT-NOT-RETRIEVABLE-confirm, AA-ESTABLISH-request, AA-ESTABLISH-response, AA-RELEASE-request, AA-DATA-request, AA-RECOVER-response, AA-RETRIEVE-request, MAAL-PROVING-indication, MAAL-STOP-PROVING-indication, MAAL-REPORT-indication, Set, Reset, Cond, LPO=0, LPO=0&INS=0, LPO=0&INS=1, UU=EM-or-NM, Source=User, BSNT-available, MU>4, holds}
-use Rattle.table6.specs.Summary.{Op, keep, put, over, Count, same, decided, less, Summary, Summed, refused, summed}
+use Rattle.table6.specs.Cell.{T1, T2, T3, Act, AAL-RECEIVED-MESSAGE-indication, AAL-LINK-CONGESTED-indication, AAL-LINK-CONGESTION-CEASED-indication, AAL-IN-SERVICE-indication, AAL-OUT-OF-SERVICE-indication, AAL-RETRIEVED-MESSAGES-indication, AAL-RETRIEVAL-COMPLETE-indication, AAL-BSNT-confirm, AAL-BSNT-NOT-RETRIEVABLE-confirm, AA-ESTABLISH-request, AA-ESTABLISH-response, AA-RELEASE-request, AA-DATA-request, AA-RECOVER-response, AA-RETRIEVE-request, MAAL-PROVING-indication, MAAL-STOP-PROVING-indication, MAAL-REPORT-indication, Set, Reset, Cond, LPO=0, LPO=0&INS=0, LPO=0&INS=1, UU=EM-or-NM, Source=User, BSNT-available, MU>4, holds, cell, chosen}
+use Rattle.table6.specs.Rows.{printed, Heading, heading}
+use Rattle.table6.specs.Summary.{Op, keep, put, over, Count, same, decided, less, Summary, Summed, refused, summed, sum}
 
 -- CELLS
 
@@ -366,6 +367,13 @@ abbrev pub said : ℕ → List Act
 said w = map wordAt (from (octet w) 0 (w % 8))
 
 -- WHAT THE CODE ANSWERS
+
+-- What the cell of a heading and a state does.
+abbrev pub meets : Heading → State → Facts → Summed
+meets h state f = sum (h .arrives) (chosen f (cell (printed f (h .row)) state))
+
+unfoldable pub met : ℕ → State → Facts → Summed
+met row = meets (heading row)
 
 abbrev pub metAs : State → Met → Summed
 metAs state Met.Illegal = refused

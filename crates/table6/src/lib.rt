@@ -4,8 +4,7 @@ pub mod effects;
 pub mod rows;
 
 ghost use mathlib.Core.Path.{_≡_};
-ghost use Rattle.table6.specs.Stored.{metAs};
-ghost use Rattle.table6.specs.Rows.{met};
+ghost use Rattle.table6.specs.Stored.{metAs, met};
 
 pub enum State {
     S111,

@@ -5,9 +5,8 @@ use Prim.Native.Nat.{ℕ}
 use Rattle.table6.specs.declared.Met.{Met}
 use Rattle.table6.specs.declared.effects.Change.{Change}
 use Rattle.table6.specs.declared.Facts.{Facts}
-use Rattle.table6.specs.Rows.{met}
 use Rattle.table6.specs.Summary.{over}
-use Rattle.table6.specs.Stored.{metAs, changed, stateOp}
+use Rattle.table6.specs.Stored.{metAs, changed, stateOp, met}
 use Rattle.link.specs.declared.Link.{Link}
 use Rattle.link.specs.declared.Event.{Event}
 use Rattle.link.specs.declared.View.{View}

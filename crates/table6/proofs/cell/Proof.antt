@@ -10,8 +10,7 @@ use Rattle.table6.specs.declared.Facts.{Facts}
 use Rattle.table6.specs.declared.Met.{Met}
 use Rattle.table6.specs.declared.effects.Change.{Change}
 use Rattle.table6.specs.Summary.{Summed, refused}
-use Rattle.table6.specs.Rows.{met}
-use Rattle.table6.specs.Stored.{codeAt, answer, changeAt, saysAt, metAs}
+use Rattle.table6.specs.Stored.{codeAt, answer, changeAt, saysAt, metAs, met}
 use Rattle.table6.proofs.Stored.{codeSum, at-each-cell}
 use Rattle.table6.proofs.cell.Statement.{statement}
 use Rattle.table6.proofs.cell.Tie as tie
