@@ -6,6 +6,7 @@ pub mod rows;
 ghost use mathlib.Core.Path.{_≡_};
 ghost use Rattle.table6.specs.Stored.{metAs, met};
 
+// The states of Q.2140: S2103 is 2/10/3, and so on, in the order of document 01's codes.
 pub enum State {
     S111,
     S141,
@@ -33,6 +34,7 @@ pub struct Facts {
     pub long: bool,
 }
 
+// What an event meets.
 pub enum Met {
     Illegal,
     // What it does to the link, and its signals, as effects.rt numbers them.
