@@ -60,10 +60,10 @@ of-cell t acts (IF q THEN c ELSE d) f h =
     let p = and-eq-true-iff (in-cell t acts c) (in-cell t acts d) .0 h in
     either t acts (holds q f) (chosen f c) (chosen f d) (of-cell t acts c f (p .0)) (of-cell t acts d f (p .1))
 
-left : (a b : Bool) → a && b ≡ true → a ≡ true
+pub left : (a b : Bool) → a && b ≡ true → a ≡ true
 left a b h = and-eq-true-iff a b .0 h .0
 
-right : (a b : Bool) → a && b ≡ true → b ≡ true
+pub right : (a b : Bool) → a && b ≡ true → b ≡ true
 right a b h = and-eq-true-iff a b .0 h .1
 
 of-states : (g : State → Bool) → in-states g ≡ true → (s : State) → g s ≡ true

@@ -1,0 +1,3 @@
+pub mod LinkRecord
+pub mod Octets
+pub mod OneAnswer

@@ -1,0 +1,244 @@
+-- The link record's round trips. Assumes nothing.
+use mathlib.Core.Path.{_≡_, refl, sym, ap, _∙_}
+use mathlib.Core.Bool.{Bool, true, false, cond, _&&_, _||_}
+use mathlib.Core.List.{List, [], _∷_}
+use Prim.Native.Nat.{ℕ, zero, suc, _+_, _*_, _/_, _%_, _<_, _≤_}
+use native.Mathlib.Omega.{arith}
+use native.Mathlib.Nat.{div-add-mod'}
+use lib.Dec.{eqb, leb}
+use lib.ListN.{length, getD}
+use borrow.Author.Tests.{eqb-true, leb-true, le-leb, eq-eqb}
+use Rattle.unit.specs.declared.Mps.{Mps}
+use Rattle.unit.specs.declared.Ups.{Ups}
+use Rattle.unit.specs.Proving.{mpsCode, upsCode}
+use Rattle.table6.specs.declared.State.{State}
+use Rattle.unit.proofs.Proving.{mps-below, ups-below}
+use Rattle.table6.specs.Stored.{from}
+use Rattle.table6.proofs.Lists.{alike}
+use Rattle.table6.proofs.Every.{left, right}
+use Rattle.link.specs.declared.Link.{Link}
+use Rattle.link.specs.Signal.{none}
+use Rattle.record.specs.Octets.{Octets, at, two, bit}
+use Rattle.record.proofs.Octets.{bit-le}
+use Rattle.record.specs.LinkRecord.{stateCode, stateAt, mpsAt, upsAt, octetsOf, linkOf, wellFormed, Unpacked, GoodLink, PackedWell, Repacked}
+
+state-back : (s : State) → stateAt (stateCode s) ≡ s
+state-back State.S111 = refl
+state-back State.S141 = refl
+state-back State.S212 = refl
+state-back State.S222 = refl
+state-back State.S242 = refl
+state-back State.S2103 = refl
+state-back State.S2104 = refl
+state-back State.S3105 = refl
+
+mps-back : (m : Mps) → mpsAt (mpsCode m) ≡ m
+mps-back Mps.Neutral = refl
+mps-back Mps.Normal = refl
+mps-back Mps.Emergency = refl
+
+ups-back : (u : Ups) → upsAt (upsCode u) ≡ u
+ups-back Ups.Normal = refl
+ups-back Ups.Emergency = refl
+
+bit-back : (b : Bool) → eqb (bit b) 1 ≡ b
+bit-back true = refl
+bit-back false = refl
+
+-- bits of an octet: the lowest, the second, the third
+first : (x y z : Bool) → eqb ((bit x + 2 * bit y + 4 * bit z) % 2) 1 ≡ x
+first true true true = refl
+first true true false = refl
+first true false true = refl
+first true false false = refl
+first false true true = refl
+first false true false = refl
+first false false true = refl
+first false false false = refl
+
+second : (x y z : Bool) → eqb ((bit x + 2 * bit y + 4 * bit z) / 2 % 2) 1 ≡ y
+second true true true = refl
+second true true false = refl
+second true false true = refl
+second true false false = refl
+second false true true = refl
+second false true false = refl
+second false false true = refl
+second false false false = refl
+
+third : (x y z : Bool) → eqb ((bit x + 2 * bit y + 4 * bit z) / 4) 1 ≡ z
+third true true true = refl
+third true true false = refl
+third true false true = refl
+third true false false = refl
+third false true true = refl
+third false true false = refl
+third false false true = refl
+third false false false = refl
+
+low-flag : (x y : Bool) → eqb ((bit x + 2 * bit y) % 2) 1 ≡ x
+low-flag true true = refl
+low-flag true false = refl
+low-flag false true = refl
+low-flag false false = refl
+
+high-flag : (x y : Bool) → eqb ((bit x + 2 * bit y) / 2) 1 ≡ y
+high-flag true true = refl
+high-flag true false = refl
+high-flag false true = refl
+high-flag false false = refl
+
+pub unpacked : Unpacked
+unfolding octetsOf linkOf
+unpacked l = λ i. record {
+  state = state-back (l .state) i;
+  ins = low-flag (l .ins) (l .lpo) i;
+  lpo = high-flag (l .ins) (l .lpo) i;
+  mps = mps-back (l .mps) i;
+  ups = ups-back (l .ups) i;
+  t1 = first (l .t1) (l .t2) (l .t3) i;
+  t2 = second (l .t1) (l .t2) (l .t3) i;
+  t3 = third (l .t1) (l .t2) (l .t3) i;
+  bsnt = record { known = bit-back (l .bsnt .known) i; num = l .bsnt .num };
+  c1 = div-add-mod' (l .c1) 256 i;
+  n1 = div-add-mod' (l .n1) 256 i;
+}
+
+-- WHAT WAS PACKED IS WELL-FORMED
+
+both : {a b : Bool} → a ≡ true → b ≡ true → a && b ≡ true
+both p q = rw (p, q)
+
+state-low : (s : State) → leb 1 (stateCode s) ≡ true
+state-low State.S111 = refl
+state-low State.S141 = refl
+state-low State.S212 = refl
+state-low State.S222 = refl
+state-low State.S242 = refl
+state-low State.S2103 = refl
+state-low State.S2104 = refl
+state-low State.S3105 = refl
+
+state-high : (s : State) → leb (stateCode s) 8 ≡ true
+state-high State.S111 = refl
+state-high State.S141 = refl
+state-high State.S212 = refl
+state-high State.S222 = refl
+state-high State.S242 = refl
+state-high State.S2103 = refl
+state-high State.S2104 = refl
+state-high State.S3105 = refl
+
+known-or-none : (l : Link) (b : Bool) → l .bsnt .known ≡ b → (b ≡ false → l .bsnt .num ≡ none) →
+    eqb (bit (l .bsnt .known)) 1 || eqb (l .bsnt .num .a) 0 && eqb (l .bsnt .num .b) 0 && eqb (l .bsnt .num .c) 0 ≡ true
+known-or-none l true e h = rw e
+known-or-none l false e h = rw (e, h refl)
+
+within : (m n : ℕ) → m ≤ n → leb m n ≡ true
+within m n h = le-leb m n h
+
+pub packed-well : PackedWell
+unfolding octetsOf wellFormed
+packed-well l g =
+    both (both (both (both (both (both (both (both (both (both (both refl refl)
+    (state-low (l .state))) (state-high (l .state)))
+    (within (bit (l .ins) + 2 * bit (l .lpo)) 3 (omega (arith, bit-le (l .ins), bit-le (l .lpo)))))
+    (within (mpsCode (l .mps)) 2 (omega (arith, mps-below (l .mps)))))
+    (within (upsCode (l .ups)) 1 (omega (arith, ups-below (l .ups)))))
+    (within (bit (l .t1) + 2 * bit (l .t2) + 4 * bit (l .t3)) 7 (omega (arith, bit-le (l .t1), bit-le (l .t2), bit-le (l .t3)))))
+    (within (bit (l .bsnt .known)) 1 (bit-le (l .bsnt .known))))
+    (known-or-none l (l .bsnt .known) refl (g .1)))
+    refl)
+    (within 1 (two (l .n1 / 256) (l .n1 % 256)) (rw (div-add-mod' (l .n1) 256) (g .0)))
+
+-- AND BACK
+
+-- a list is its octets
+shifted : (f : ℕ → ℕ) (i n : ℕ) → from f (suc i) n ≡ from (λ k. f (suc k)) i n
+shifted f i zero = refl
+shifted f i (suc n) = ap (λ (r : List ℕ). f (suc i) ∷ r) (shifted f (suc i) n)
+
+listed : (r : List ℕ) → r ≡ from (at r) 0 (length r)
+listed [] = refl
+listed (x ∷ r) = ap (λ (s : List ℕ). x ∷ s) (listed r ∙ sym (shifted (at (x ∷ r)) 0 (length r)))
+
+state-same : (c : ℕ) → 1 ≤ c → c ≤ 8 → stateCode (stateAt c) ≡ c
+state-same zero p q = absurd (omega arith)
+state-same (suc c) p q = alike (λ k. stateCode (stateAt (suc k))) suc 8 0 refl c (omega arith)
+
+mps-same : (c : ℕ) → c ≤ 2 → mpsCode (mpsAt c) ≡ c
+mps-same c h = alike (λ k. mpsCode (mpsAt k)) (λ k. k) 3 0 refl c (omega arith)
+
+ups-same : (c : ℕ) → c ≤ 1 → upsCode (upsAt c) ≡ c
+ups-same c h = alike (λ k. upsCode (upsAt k)) (λ k. k) 2 0 refl c (omega arith)
+
+flags-same : (c : ℕ) → c ≤ 3 → bit (eqb (c % 2) 1) + 2 * bit (eqb (c / 2) 1) ≡ c
+flags-same c h = alike (λ k. bit (eqb (k % 2) 1) + 2 * bit (eqb (k / 2) 1)) (λ k. k) 4 0 refl c (omega arith)
+
+timers-same : (c : ℕ) → c ≤ 7 → bit (eqb (c % 2) 1) + 2 * bit (eqb (c / 2 % 2) 1) + 4 * bit (eqb (c / 4) 1) ≡ c
+timers-same c h = alike (λ k. bit (eqb (k % 2) 1) + 2 * bit (eqb (k / 2 % 2) 1) + 4 * bit (eqb (k / 4) 1)) (λ k. k) 8 0 refl c (omega arith)
+
+known-same : (c : ℕ) → c ≤ 1 → bit (eqb c 1) ≡ c
+known-same c h = alike (λ k. bit (eqb k 1)) (λ k. k) 2 0 refl c (omega arith)
+
+high-same : (a b : ℕ) → b < 256 → (a * 256 + b) / 256 ≡ a
+high-same a b h = omega arith
+
+low-same : (a b : ℕ) → b < 256 → (a * 256 + b) % 256 ≡ b
+low-same a b h = omega arith
+
+-- the twelve tests of a well-formed record, one by one
+parts : (a b c d e f g h i j k m : Bool) → a && b && c && d && e && f && g && h && i && j && k && m ≡ true →
+    (a ≡ true) × (b ≡ true) × (c ≡ true) × (d ≡ true) × (e ≡ true) × (f ≡ true) × (g ≡ true) × (h ≡ true) × (i ≡ true) × (j ≡ true) × (k ≡ true) × (m ≡ true)
+parts a b c d e f g h i j k m w =
+    let w11 = left (a && b && c && d && e && f && g && h && i && j && k) m w in
+    let w10 = left (a && b && c && d && e && f && g && h && i && j) k w11 in
+    let w9 = left (a && b && c && d && e && f && g && h && i) j w10 in
+    let w8 = left (a && b && c && d && e && f && g && h) i w9 in
+    let w7 = left (a && b && c && d && e && f && g) h w8 in
+    let w6 = left (a && b && c && d && e && f) g w7 in
+    let w5 = left (a && b && c && d && e) f w6 in
+    let w4 = left (a && b && c && d) e w5 in
+    let w3 = left (a && b && c) d w4 in
+    let w2 = left (a && b) c w3 in (
+      left a b w2,
+      right a b w2,
+      right (a && b) c w3,
+      right (a && b && c) d w4,
+      right (a && b && c && d) e w5,
+      right (a && b && c && d && e) f w6,
+      right (a && b && c && d && e && f) g w7,
+      right (a && b && c && d && e && f && g) h w8,
+      right (a && b && c && d && e && f && g && h) i w9,
+      right (a && b && c && d && e && f && g && h && i) j w10,
+      right (a && b && c && d && e && f && g && h && i && j) k w11,
+      right (a && b && c && d && e && f && g && h && i && j && k) m w,
+    )
+
+octet-at : (r : List ℕ) → Octets r → (i : ℕ) → at r i < 256
+octet-at [] o i = omega arith
+octet-at (x ∷ r) o zero = o .0
+octet-at (x ∷ r) o (suc i) = octet-at r (o .1) i
+
+pub repacked : Repacked
+unfolding octetsOf linkOf wellFormed
+repacked r o n w =
+    let p =
+    parts (eqb (at r 0) 76) (eqb (at r 1) 75) (leb 1 (at r 2)) (leb (at r 2) 8) (leb (at r 3) 3) (leb (at r 4) 2) (leb (at r 5) 1) (leb (at r 6) 7) (leb (at r 7) 1)
+    (eqb (at r 7) 1 || eqb (at r 8) 0 && eqb (at r 9) 0 && eqb (at r 10) 0) (eqb (at r 11) 0) (leb 1 (two (at r 14) (at r 15))) w in
+    let e0 = sym (eqb-true (at r 0) 76 (p .0)) in
+    let e1 = sym (eqb-true (at r 1) 75 (p .1)) in
+    let e2 = state-same (at r 2) (leb-true 1 (at r 2) (p .2)) (leb-true (at r 2) 8 (p .3)) in
+    let e3 = flags-same (at r 3) (leb-true (at r 3) 3 (p .4)) in
+    let e4 = mps-same (at r 4) (leb-true (at r 4) 2 (p .5)) in
+    let e5 = ups-same (at r 5) (leb-true (at r 5) 1 (p .6)) in
+    let e6 = timers-same (at r 6) (leb-true (at r 6) 7 (p .7)) in
+    let e7 = known-same (at r 7) (leb-true (at r 7) 1 (p .8)) in
+    let e11 = sym (eqb-true (at r 11) 0 (p .10)) in
+    let e12 = high-same (at r 12) (at r 13) (octet-at r o 13) in
+    let e13 = low-same (at r 12) (at r 13) (octet-at r o 13) in
+    let e14 = high-same (at r 14) (at r 15) (octet-at r o 15) in
+    let e15 = low-same (at r 14) (at r 15) (octet-at r o 15) in
+    (λ x. e0 x ∷ e1 x ∷ e2 x ∷ e3 x ∷ e4 x ∷ e5 x ∷ e6 x ∷ e7 x ∷ at r 8 ∷ at r 9 ∷ at r 10 ∷ e11 x ∷ e12 x ∷ e13 x ∷ e14 x ∷ e15 x ∷ [])
+    ∙ ap (from (at r) 0) (sym n)
+    ∙ sym (listed r)

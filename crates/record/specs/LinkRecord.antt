@@ -1,0 +1,109 @@
+-- The link record of document 01: sixteen octets, what they hold, and when they are well-formed.
+use Prim.Native.Nat.{ℕ, _+_, _*_, _/_, _%_, _≤_}
+use mathlib.Core.Path.{_≡_}
+use mathlib.Core.Bool.{Bool, true, false, cond, _&&_, _||_}
+use mathlib.Core.List.{List, [], _∷_}
+use lib.Dec.{eqb, leb}
+use lib.ListN.{getD, length}
+use Rattle.unit.specs.declared.Mps.{Mps}
+use Rattle.unit.specs.declared.Ups.{Ups}
+use Rattle.unit.specs.Proving.{mpsCode, upsCode}
+use Rattle.table6.specs.declared.State.{State}
+use Rattle.link.specs.declared.Num.{Num}
+use Rattle.link.specs.declared.Bsnt.{Bsnt}
+use Rattle.link.specs.declared.Link.{Link}
+use Rattle.link.specs.Signal.{none}
+use Rattle.record.specs.declared.Slot.{Slot}
+use Rattle.record.specs.Octets.{Octets, at, two, bit}
+
+abbrev pub stateCode : State → ℕ
+stateCode State.S111 = 1
+stateCode State.S141 = 2
+stateCode State.S212 = 3
+stateCode State.S222 = 4
+stateCode State.S242 = 5
+stateCode State.S2103 = 6
+stateCode State.S2104 = 7
+stateCode State.S3105 = 8
+
+-- The sixteen octets of a record.
+unfoldable pub octetsOf : Link → List ℕ
+octetsOf l =
+    76  -- L
+    ∷ 75  -- K
+    ∷ stateCode (l .state)
+    ∷ (bit (l .ins) + 2 * bit (l .lpo))
+    ∷ mpsCode (l .mps)
+    ∷ upsCode (l .ups)
+    ∷ (bit (l .t1) + 2 * bit (l .t2) + 4 * bit (l .t3))
+    ∷ bit (l .bsnt .known)
+    ∷ l .bsnt .num .a
+    ∷ l .bsnt .num .b
+    ∷ l .bsnt .num .c
+    ∷ 0
+    ∷ (l .c1 / 256)
+    ∷ (l .c1 % 256)
+    ∷ (l .n1 / 256)
+    ∷ (l .n1 % 256)
+    ∷ []
+
+abbrev pub stateAt : ℕ → State
+stateAt c = getD (State.S111 ∷ State.S111 ∷ State.S141 ∷ State.S212 ∷ State.S222 ∷ State.S242 ∷ State.S2103 ∷ State.S2104 ∷ []) c State.S3105
+
+abbrev pub mpsAt : ℕ → Mps
+mpsAt c = getD (Mps.Neutral ∷ Mps.Normal ∷ []) c Mps.Emergency
+
+abbrev pub upsAt : ℕ → Ups
+upsAt c = getD (Ups.Normal ∷ []) c Ups.Emergency
+
+-- What sixteen octets hold.
+unfoldable pub linkOf : List ℕ → Link
+linkOf r =
+    record {
+      state = stateAt (at r 2);
+      ins = eqb (at r 3 % 2) 1;
+      lpo = eqb (at r 3 / 2) 1;
+      mps = mpsAt (at r 4);
+      ups = upsAt (at r 5);
+      t1 = eqb (at r 6 % 2) 1;
+      t2 = eqb (at r 6 / 2 % 2) 1;
+      t3 = eqb (at r 6 / 4) 1;
+      bsnt = record { known = eqb (at r 7) 1; num = record { a = at r 8; b = at r 9; c = at r 10 } };
+      c1 = two (at r 12) (at r 13);
+      n1 = two (at r 14) (at r 15);
+    }
+
+-- "Anything else is ill-formed."
+unfoldable pub wellFormed : List ℕ → Bool
+wellFormed r =
+    eqb (at r 0) 76
+    && eqb (at r 1) 75
+    && leb 1 (at r 2)
+    && leb (at r 2) 8
+    && leb (at r 3) 3
+    && leb (at r 4) 2
+    && leb (at r 5) 1
+    && leb (at r 6) 7
+    && leb (at r 7) 1
+    && (eqb (at r 7) 1 || eqb (at r 8) 0 && eqb (at r 9) 0 && eqb (at r 10) 0)
+    && eqb (at r 11) 0
+    && leb 1 (two (at r 14) (at r 15))
+
+-- What octets are as a link's record.
+unfoldable pub slotOf : List ℕ → Slot
+slotOf r = cond (eqb (length r) 16 && wellFormed r) (Slot.Holds (linkOf r)) Slot.IllFormed
+
+-- ROUND TRIPS. Unpacking what was packed gives the record.
+abbrev pub Unpacked : Type 0
+Unpacked = (l : Link) → linkOf (octetsOf l) ≡ l
+
+-- What was packed is well-formed, where n1 is at least 1 and a BSNT that isn't known is 0.
+abbrev pub GoodLink : Link → Type 0
+GoodLink l = (1 ≤ l .n1) × (l .bsnt .known ≡ false → l .bsnt .num ≡ none)
+
+abbrev pub PackedWell : Type 0
+PackedWell = (l : Link) → GoodLink l → wellFormed (octetsOf l) ≡ true
+
+-- Packing what was unpacked gives the same sixteen octets.
+abbrev pub Repacked : Type 0
+Repacked = (r : List ℕ) → Octets r → length r ≡ 16 → wellFormed r ≡ true → octetsOf (linkOf r) ≡ r
