@@ -1,3 +1,4 @@
+pub mod EventRecord
 pub mod LinkRecord
 pub mod Octets
 pub mod OneAnswer

@@ -1,4 +1,6 @@
-// The records of document 01 as octets: a link's sixteen, and back.
+// The records of document 01 as octets: a link's sixteen, and back; an event's.
+pub mod events;
+
 use link::Bsnt;
 use link::Link;
 use link::Num;

@@ -1,0 +1,36 @@
+-- `events::read_event` meets its contract. Assumes nothing.
+use Prim.Native.Nat.{ℕ, _≤_}
+use mathlib.Core.Path.{_≡_, sym, _∙_}
+use mathlib.Core.Bool.{Bool, true, false}
+use mathlib.Core.List.{List}
+use borrow.Author.Needs.{needs}
+use borrow.Author.Tests.{leb-true}
+use lib.ListN.{length}
+use Rattle.record.specs.declared.events.Reading.{Reading}
+use Rattle.record.specs.EventRecord.{framed, fieldsOf, readingOf}
+use Rattle.record.proofs.EventRecord.{twelve}
+use Rattle.record.proofs.events.read_event.Statement.{statement}
+use Rattle.record.proofs.events.read_event.Tie as tie
+
+sound : (e : List ℕ) {r : Reading} → framed e ≡ true → r ≡ fieldsOf e → r ≡ readingOf e
+unfolding readingOf
+sound e f g = rw f g
+
+broken : (e : List ℕ) → framed e ≡ false → Reading.BadFrame ≡ readingOf e
+unfolding readingOf
+broken e f = rw f
+
+framed-requires : tie.Need-framed-requires
+framed-requires c κs = search needs
+
+fields-requires : tie.Need-fields-requires
+fields-requires c κs = twelve _ (sym (c .before .framed .ensures) ∙ c .if1 .taken)
+
+returns : tie.Need-returns
+returns c = sound _ (sym (c .before .before .framed .ensures) ∙ c .before .if1 .taken) (c .fields .ensures)
+
+returns-2 : tie.Need-returns-2
+returns-2 c = broken _ (sym (c .before .framed .ensures) ∙ c .if1 .left)
+
+pub read-event-spec : {M : Type 1} → statement M
+read-event-spec = tie.close (tie.spec framed-requires fields-requires returns returns-2)

@@ -1,0 +1,132 @@
+-- The event record of document 01: when its frame is sound, what a code says, and which fields fit it.
+use Prim.Native.Nat.{ℕ, _+_}
+use mathlib.Core.Bool.{Bool, true, false, cond, not, _&&_, _||_}
+use mathlib.Core.List.{List, [], _∷_}
+use lib.Dec.{eqb, leb}
+use lib.ListN.{length, drop}
+use Rattle.unit.specs.declared.Arrived.{Arrived}
+use Rattle.unit.specs.declared.Field.{Field}
+use Rattle.unit.specs.Unit.{decoded, arrived}
+use Rattle.link.specs.declared.Num.{Num}
+use Rattle.link.specs.declared.Event.{Event}
+use Rattle.link.specs.declared.Event.the-variants as event
+use Rattle.record.specs.declared.events.Coded.{Coded}
+use Rattle.record.specs.declared.events.Reading.{Reading}
+use Rattle.record.specs.Octets.{at, two}
+
+abbrev pub lengthAt : List ℕ → ℕ
+lengthAt e = two (at e 10) (at e 11)
+
+abbrev pub linkAt : List ℕ → ℕ
+linkAt e = two (at e 2) (at e 3)
+
+abbrev pub numberAt : List ℕ → Num
+numberAt e = record { a = at e 6; b = at e 7; c = at e 8 }
+
+abbrev pub messageOf : List ℕ → List ℕ
+messageOf e = drop 12 e
+
+-- At least twelve octets, the mark, octet 9 zero, and a length of at most 4,096 that is the length of what follows.
+unfoldable pub framed : List ℕ → Bool
+framed e =
+    leb 12 (length e)
+    && (eqb (at e 0) 69  -- E
+    && eqb (at e 1) 86  -- V
+    && eqb (at e 9) 0
+    && leb (lengthAt e) 4096
+    && eqb (12 + lengthAt e) (length e))
+
+pub record Code : Type 0 where
+  pub code : ℕ
+  pub says : Event
+
+abbrev pub _says_ : ℕ → Event → Code
+_says_ c e = record { code = c; says = e }
+
+-- The codes, with what each carries: the parameter, the number, the length of the message, what arrived.
+abbrev pub codes : ℕ → Num → ℕ → Arrived → List Code
+codes p n len a =
+    _says_ 1 event.Message
+    ∷ _says_ 2 event.Emergency
+    ∷ _says_ 3 event.EmergencyCeases
+    ∷ _says_ 4 event.Stop
+    ∷ _says_ 5 event.Start
+    ∷ _says_ 6 event.RetrieveBsnt
+    ∷ _says_ 7 (event.Retrieval n)
+    ∷ _says_ 8 event.FlushBuffers
+    ∷ _says_ 9 event.Continue
+    ∷ _says_ 16 (event.EstablishIndication p)
+    ∷ _says_ 17 (event.EstablishConfirm p)
+    ∷ _says_ 18 (event.ReleaseIndication p (n .c))
+    ∷ _says_ 19 event.ReleaseConfirm
+    ∷ _says_ 20 (event.Data a n)
+    ∷ _says_ 21 event.Resync
+    ∷ _says_ 22 event.Recover
+    ∷ _says_ 23 event.UnitData
+    ∷ _says_ 24 (event.Retrieve len)
+    ∷ _says_ 25 event.RetrieveComplete
+    ∷ _says_ 32 event.ProvingUnsuccessful
+    ∷ _says_ 33 event.Release
+    ∷ _says_ 34 event.Outage
+    ∷ _says_ 35 event.Recovered
+    ∷ _says_ 36 event.ForceProving
+    ∷ _says_ 37 event.ForceEmergency
+    ∷ _says_ 38 event.ClearForceModes
+    ∷ _says_ 39 (event.Congestion p)
+    ∷ _says_ 40 event.CongestionCeased
+    ∷ _says_ 48 event.T1
+    ∷ _says_ 49 event.T2
+    ∷ _says_ 50 event.T3
+    ∷ []
+
+abbrev pub among : ℕ → List Code → Coded
+among c [] = Coded.Unknown
+among c (x ∷ others) = cond (eqb c (x .code)) (Coded.Of (x .says)) (among c others)
+
+unfoldable pub codedAt : ℕ → ℕ → Num → ℕ → Arrived → Coded
+codedAt c p n len a = among c (codes p n len a)
+
+-- FIELDS
+
+abbrev pub isNamed : Field → Bool
+isNamed (Field.Named s) = true
+isNamed Field.Unnamed = false
+
+abbrev pub isStatus : ℕ → Bool
+isStatus field = isNamed (decoded field)
+
+abbrev pub hasMessage : ℕ → Bool
+hasMessage c = eqb c 1 || eqb c 20 || eqb c 23 || eqb c 24
+
+abbrev pub hasNumber : ℕ → Bool
+hasNumber c = eqb c 7 || eqb c 18 || eqb c 20
+
+abbrev pub hasParameter : ℕ → Bool
+hasParameter c = eqb c 16 || eqb c 17 || eqb c 18 || eqb c 39
+
+-- "A field set that the code doesn't carry (a length above 0 counts as one), a parameter or source out of range, or a user message under 5 octets."
+unfoldable pub misfit : ℕ → ℕ → Num → ℕ → Bool
+misfit c p n len =
+    (not (hasMessage c) && leb 1 len)
+    || (not (hasNumber c) && not (eqb (n .a) 0 && eqb (n .b) 0 && eqb (n .c) 0))
+    || (not (hasParameter c) && leb 1 p)
+    || ((eqb c 16 || eqb c 17 || eqb c 18) && not (eqb p 0 || isStatus p))
+    || (eqb c 39 && leb 4 p)
+    || (eqb c 18 && not (eqb (n .a) 0 && eqb (n .b) 0 && leb (n .c) 1))
+    || (eqb c 1 && leb len 4)
+
+-- WHAT OCTETS ARE AS AN EVENT RECORD: checks 2, 3 and 4 in their order.
+
+abbrev pub fitting : Coded → Bool → ℕ → Reading
+fitting Coded.Unknown m l = Reading.UnknownCode
+fitting (Coded.Of e) m l = cond m Reading.Misfit (Reading.Holds l e)
+
+unfoldable pub fieldsOf : List ℕ → Reading
+fieldsOf e =
+    fitting
+    (codedAt (at e 4) (at e 5) (numberAt e) (lengthAt e) (arrived (messageOf e)))
+    (misfit (at e 4) (at e 5) (numberAt e) (lengthAt e))
+    (linkAt e)
+
+unfoldable pub readingOf : List ℕ → Reading
+readingOf e = cond (framed e) (fieldsOf e) Reading.BadFrame

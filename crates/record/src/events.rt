@@ -1,0 +1,171 @@
+// The event record of document 01: twelve octets and a message, read as an event.
+
+use super::marked;
+use super::wide;
+use link::Event;
+use link::Num;
+use unit::Arrived;
+use unit::Field;
+ghost use mathlib.Core.Path.{_≡_};
+ghost use Prim.Native.Nat.{_≤_};
+ghost use lib.ListN.{length, drop};
+ghost use Rattle.record.specs.EventRecord.{framed, codedAt, isStatus, hasMessage, hasNumber, hasParameter, misfit, fieldsOf, readingOf};
+
+// The mark of an event.
+pub const EV: [u8; 2] = *b"EV";
+
+// At least twelve octets, the mark, octet 9 zero, and a length that is that of what follows.
+fn framed(e: &[u8]) -> bool
+    ensures { λ r. ⌜ r ≡ framed (now (e .entry)) ⌝ }
+{
+    if e.len() < 12 {
+        return false;
+    }
+    let len = wide(e[10], e[11]);
+    marked(e, &EV) & (e[9] == 0) & (len <= 4096) & (12 + len as usize == e.len())
+}
+
+// The message, a part of the caller's own octets.
+pub fn message(e: &[u8]) -> &[u8]
+    requires { ⌜ 12 ≤ length (now e) ⌝ }
+    ensures { λ r. ⌜ now r ≡ drop 12 (now (e .entry)) ⌝ }
+{
+    &e[12..]
+}
+
+// What a code says: an event with what it carries, or nothing that document 01 has.
+pub enum Coded {
+    Unknown,
+    Of(Event),
+}
+
+fn coded_as(code: u8, param: u8, num: Num, len: u16, arrived: Arrived) -> Coded
+    ensures { λ r. ⌜ r ≡ codedAt code param num len arrived ⌝ }
+{
+    match code {
+        1 => Coded::Of(Event::Message),
+        2 => Coded::Of(Event::Emergency),
+        3 => Coded::Of(Event::EmergencyCeases),
+        4 => Coded::Of(Event::Stop),
+        5 => Coded::Of(Event::Start),
+        6 => Coded::Of(Event::RetrieveBsnt),
+        7 => Coded::Of(Event::Retrieval(num)),
+        8 => Coded::Of(Event::FlushBuffers),
+        9 => Coded::Of(Event::Continue),
+        16 => Coded::Of(Event::EstablishIndication(param)),
+        17 => Coded::Of(Event::EstablishConfirm(param)),
+        18 => Coded::Of(Event::ReleaseIndication {
+            field: param,
+            source: num.c,
+        }),
+        19 => Coded::Of(Event::ReleaseConfirm),
+        20 => Coded::Of(Event::Data(arrived, num)),
+        21 => Coded::Of(Event::Resync),
+        22 => Coded::Of(Event::Recover),
+        23 => Coded::Of(Event::UnitData),
+        24 => Coded::Of(Event::Retrieve { len: len }),
+        25 => Coded::Of(Event::RetrieveComplete),
+        32 => Coded::Of(Event::ProvingUnsuccessful),
+        33 => Coded::Of(Event::Release),
+        34 => Coded::Of(Event::Outage),
+        35 => Coded::Of(Event::Recovered),
+        36 => Coded::Of(Event::ForceProving),
+        37 => Coded::Of(Event::ForceEmergency),
+        38 => Coded::Of(Event::ClearForceModes),
+        39 => Coded::Of(Event::Congestion(param)),
+        40 => Coded::Of(Event::CongestionCeased),
+        48 => Coded::Of(Event::T1),
+        49 => Coded::Of(Event::T2),
+        50 => Coded::Of(Event::T3),
+        _ => Coded::Unknown,
+    }
+}
+
+fn is_status(field: u8) -> bool
+    ensures { λ r. ⌜ r ≡ isStatus field ⌝ }
+{
+    match unit::decode(field) {
+        Field::Named(_) => true,
+        Field::Unnamed => false,
+    }
+}
+
+// Which codes carry a message, a number, a parameter.
+fn has_message(code: u8) -> bool
+    ensures { λ r. ⌜ r ≡ hasMessage code ⌝ }
+{
+    (code == 1) | (code == 20) | (code == 23) | (code == 24)
+}
+
+fn has_number(code: u8) -> bool
+    ensures { λ r. ⌜ r ≡ hasNumber code ⌝ }
+{
+    (code == 7) | (code == 18) | (code == 20)
+}
+
+fn has_parameter(code: u8) -> bool
+    ensures { λ r. ⌜ r ≡ hasParameter code ⌝ }
+{
+    (code == 16) | (code == 17) | (code == 18) | (code == 39)
+}
+
+// A field that the code doesn't carry, or one out of range, or a user's message that would be taken for a unit.
+fn misfits(code: u8, param: u8, num: Num, len: u16) -> bool
+    ensures { λ r. ⌜ r ≡ misfit code param num len ⌝ }
+{
+    let zero = (num.a == 0) & (num.b == 0) & (num.c == 0);
+    let small = (num.a == 0) & (num.b == 0) & (num.c <= 1);
+    (!has_message(code) & (1 <= len))
+        | (!has_number(code) & !zero)
+        | (!has_parameter(code) & (1 <= param))
+        | (((code == 16) | (code == 17) | (code == 18)) & !((param == 0) | is_status(param)))
+        | ((code == 39) & (4 <= param))
+        | ((code == 18) & !small)
+        | ((code == 1) & (len <= 4))
+}
+
+// What octets are as an event record: the event with its link, or the first of checks 2, 3 and 4 that refuses them.
+pub enum Reading {
+    BadFrame,
+    UnknownCode,
+    Misfit,
+    Holds { link: u16, event: Event },
+}
+
+// Checks 3 and 4.
+fn fields(e: &[u8]) -> Reading
+    requires { ⌜ 12 ≤ length (now e) ⌝ }
+    ensures { λ r. ⌜ r ≡ fieldsOf (now (e .entry)) ⌝ }
+{
+    let num = Num {
+        a: e[6],
+        b: e[7],
+        c: e[8],
+    };
+    let len = wide(e[10], e[11]);
+    let link = wide(e[2], e[3]);
+    let misfit = misfits(e[4], e[5], num, len);
+    let arrived = unit::read(message(e));
+    match coded_as(e[4], e[5], num, len, arrived) {
+        Coded::Unknown => Reading::UnknownCode,
+        Coded::Of(event) => {
+            if misfit {
+                return Reading::Misfit;
+            }
+            Reading::Holds {
+                link: link,
+                event: event,
+            }
+        }
+    }
+}
+
+pub fn read_event(e: &[u8]) -> Reading
+    ensures { λ r. ⌜ r ≡ readingOf (now (e .entry)) ⌝ }
+{
+    if framed(e) {
+        fields(e)
+    } else {
+        Reading::BadFrame
+    }
+}
