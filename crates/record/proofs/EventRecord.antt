@@ -1,19 +1,230 @@
--- Laws of the event record. Assumes nothing.
-use Prim.Native.Nat.{ℕ, _+_, _≤_}
-use mathlib.Core.Path.{_≡_}
-use mathlib.Core.Bool.{Bool, true, false, _&&_}
-use mathlib.Core.List.{List}
+-- The event record's round trips, and that a sound frame has its twelve octets. Assumes nothing.
+use Prim.Native.Nat.{ℕ, zero, suc, _+_, _-_, _/_, _%_, _≤_, _<_}
+use native.Mathlib.Omega.{arith}
+use mathlib.Core.Path.{_≡_, refl, sym, ap, subst, _∙_}
+use mathlib.Core.Bool.{Bool, true, false, cond, not, _&&_, _||_, true≢false}
+use mathlib.Core.List.{List, [], _∷_}
 use lib.Dec.{eqb, leb}
-use lib.ListN.{length}
-use borrow.Author.Tests.{leb-true}
-use Rattle.table6.proofs.Every.{left}
-use Rattle.record.specs.Octets.{at}
-use Rattle.record.specs.EventRecord.{framed, lengthAt}
+use lib.ListN.{length, drop, length-drop}
+use borrow.Author.Tests.{leb-true, leb-false, eqb-true, not-false, le-leb, eq-eqb}
+use Rattle.unit.specs.declared.Arrived.{Arrived}
+use Rattle.unit.specs.Unit.{arrived}
+use Rattle.table6.proofs.Every.{left, right}
+use Rattle.link.specs.declared.Num.{Num}
+use Rattle.link.specs.declared.Event.{Event}
+use Rattle.link.specs.declared.Event.the-variants as event
+use Rattle.link.specs.Signal.{num, none}
+use Rattle.record.specs.declared.events.Coded.{Coded}
+use Rattle.record.specs.declared.events.Reading.{Reading}
+use Rattle.record.specs.Octets.{Octets, at, two}
+use Rattle.record.specs.EventRecord.{framed, lengthAt, linkAt, numberAt, messageOf, Code, codes, among, Each, codedAt, isStatus, hasMessage, hasNumber, hasParameter, misfit, fitting, fieldsOf, readingOf, Carried, carrying, carried, written, eventOctets, Rewritten, Reread}
+use Rattle.record.proofs.LinkRecord.{octet-at, high-same, low-same}
+
+-- the parts of a sound frame
+frame : (e : List ℕ) → framed e ≡ true → (12 ≤ length e) × (at e 0 ≡ 69) × (at e 1 ≡ 86) × (at e 9 ≡ 0) × (12 + lengthAt e ≡ length e)
+unfolding framed
+frame e f =
+    let a = leb 12 (length e) in
+    let b = eqb (at e 0) 69 in
+    let c = eqb (at e 1) 86 in
+    let d = eqb (at e 9) 0 in
+    let g = leb (lengthAt e) 4096 in
+    let h = eqb (12 + lengthAt e) (length e) in
+    let w5 = right a (b && c && d && g && h) f in
+    let w4 = left (b && c && d && g) h w5 in
+    let w3 = left (b && c && d) g w4 in
+    let w2 = left (b && c) d w3 in (
+      leb-true 12 (length e) (left a (b && c && d && g && h) f),
+      eqb-true (at e 0) 69 (left b c w2),
+      eqb-true (at e 1) 86 (right b c w2),
+      eqb-true (at e 9) 0 (right (b && c) d w3),
+      eqb-true (12 + lengthAt e) (length e) (right (b && c && d && g) h w5),
+    )
 
 pub twelve : (e : List ℕ) → framed e ≡ true → 12 ≤ length e
-unfolding framed
-twelve e f =
-    leb-true 12 (length e) (left
-    (leb 12 (length e))
-    (eqb (at e 0) 69 && eqb (at e 1) 86 && eqb (at e 9) 0 && leb (lengthAt e) 4096 && eqb (12 + lengthAt e) (length e))
-    f)
+twelve e f = frame e f .0
+
+-- WHAT A TAKEN READING SAYS
+
+abbrev eventIn : Event → Coded → Event
+eventIn d Coded.Unknown = d
+eventIn d (Coded.Of e) = e
+
+abbrev heldEvent : Event → Reading → Event
+heldEvent d (Reading.Holds l e) = e
+heldEvent d Reading.BadFrame = d
+heldEvent d Reading.UnknownCode = d
+heldEvent d Reading.Misfit = d
+
+abbrev heldLink : Reading → ℕ
+heldLink (Reading.Holds l e) = l
+heldLink Reading.BadFrame = 0
+heldLink Reading.UnknownCode = 0
+heldLink Reading.Misfit = 0
+
+abbrev held : Reading → Bool
+held (Reading.Holds l e) = true
+held Reading.BadFrame = false
+held Reading.UnknownCode = false
+held Reading.Misfit = false
+
+holds : (f : Bool) (x : Coded) (m : Bool) (k : ℕ) {l : ℕ} {e : Event} → cond f (fitting x m k) Reading.BadFrame ≡ Reading.Holds l e →
+    (f ≡ true) × (x ≡ Coded.Of e) × (m ≡ false) × (k ≡ l)
+holds false x m k h = absurd (true≢false (sym (ap held h)))
+holds true Coded.Unknown m k h = absurd (true≢false (sym (ap held h)))
+holds true (Coded.Of y) true k h = absurd (true≢false (sym (ap held h)))
+holds true (Coded.Of y) false k h = (refl, ap (λ (r : Reading). Coded.Of (heldEvent y r)) h, refl, ap heldLink h)
+
+-- WHAT A CODE SAYS, of all codes at once
+
+abbrev coded : (x : Coded) → Bool
+coded Coded.Unknown = false
+coded (Coded.Of e) = true
+
+pick : (P : ℕ → Event → Type 0) (c : ℕ) (y : Code) (others : Coded) {x : Event} (t : Bool) → eqb c (y .code) ≡ t → P (y .code) (y .says) → (others ≡ Coded.Of x → P c x) →
+    cond t (Coded.Of (y .says)) others ≡ Coded.Of x → P c x
+pick P c y others true e p rest h =
+    subst (P c) (ap (eventIn (y .says)) h) (subst (λ (k : ℕ). P k (y .says)) (sym (eqb-true c (y .code) e)) p)
+pick P c y others false e p rest h = rest h
+
+of-codes : (P : ℕ → Event → Type 0) (c : ℕ) (ys : List Code) {x : Event} → Each (λ (y : Code). P (y .code) (y .says)) ys → among c ys ≡ Coded.Of x → P c x
+of-codes P c [] a h = absurd (true≢false (sym (ap coded h)))
+of-codes P c (y ∷ ys) a h = pick P c y (among c ys) (eqb c (y .code)) refl (a .0) (of-codes P c ys (a .1)) h
+
+-- the number that a code's event keeps: the source of a release is its last octet
+abbrev kept : ℕ → Num → Num
+kept c n = cond (eqb c 18) (num 0 0 (n .c)) (cond (hasNumber c) n none)
+
+abbrev Keeps : ℕ → Num → ℕ → Event → Type 0
+Keeps p n c x = carried x ≡ carrying c (cond (hasParameter c) p 0) (kept c n)
+
+keeps : (p : ℕ) (n : Num) (len : ℕ) (a : Arrived) → Each (λ (y : Code). Keeps p n (y .code) (y .says)) (codes p n len a)
+keeps p n len a =
+    (refl, (refl, (refl, (refl, (refl, (refl, (refl, (refl, (refl, (refl, (refl, (refl, (refl, (refl, (refl, (refl, (refl, (refl, (refl, (refl, (refl, (refl, (refl, (refl, (refl, (refl, (refl, (refl, (refl, (refl, (refl, tt)))))))))))))))))))))))))))))))
+
+-- WHAT FITS
+
+neither : (a b : Bool) → a || b ≡ false → (a ≡ false) × (b ≡ false)
+neither true b h = absurd (true≢false h)
+neither false b h = (refl, h)
+
+parameter : (t : Bool) (p : ℕ) → not t && leb 1 p ≡ false → cond t p 0 ≡ p
+parameter true p h = refl
+parameter false p h = omega (arith, leb-false 1 p h)
+
+number : (t u : Bool) (n : Num) → not u && not (eqb (n .a) 0 && eqb (n .b) 0 && eqb (n .c) 0) ≡ false → t && not (eqb (n .a) 0 && eqb (n .b) 0 && leb (n .c) 1) ≡ false →
+    cond t (num 0 0 (n .c)) (cond u n none) ≡ n
+number true u n g h =
+    let w = not-false (eqb (n .a) 0 && eqb (n .b) 0 && leb (n .c) 1) h in
+    let v = left (eqb (n .a) 0 && eqb (n .b) 0) (leb (n .c) 1) w in
+    let a = sym (eqb-true (n .a) 0 (left (eqb (n .a) 0) (eqb (n .b) 0) v)) in
+    let b = sym (eqb-true (n .b) 0 (right (eqb (n .a) 0) (eqb (n .b) 0) v)) in
+    λ i. num (a i) (b i) (n .c)
+number false true n g h = refl
+number false false n g h =
+    let w = not-false (eqb (n .a) 0 && eqb (n .b) 0 && eqb (n .c) 0) g in
+    let v = left (eqb (n .a) 0 && eqb (n .b) 0) (eqb (n .c) 0) w in
+    let a = sym (eqb-true (n .a) 0 (left (eqb (n .a) 0) (eqb (n .b) 0) v)) in
+    let b = sym (eqb-true (n .b) 0 (right (eqb (n .a) 0) (eqb (n .b) 0) v)) in
+    let c = sym (eqb-true (n .c) 0 (right (eqb (n .a) 0 && eqb (n .b) 0) (eqb (n .c) 0) w)) in
+    λ i. num (a i) (b i) (c i)
+
+-- what fits is kept whole
+whole : (c p : ℕ) (n : Num) (len : ℕ) → misfit c p n len ≡ false → (cond (hasParameter c) p 0 ≡ p) × (kept c n ≡ n)
+unfolding misfit
+whole c p n len h =
+    let m1 = not (hasMessage c) && leb 1 len in
+    let m2 = not (hasNumber c) && not (eqb (n .a) 0 && eqb (n .b) 0 && eqb (n .c) 0) in
+    let m3 = not (hasParameter c) && leb 1 p in
+    let m4 = (eqb c 16 || eqb c 17 || eqb c 18) && not (eqb p 0 || isStatus p) in
+    let m5 = eqb c 39 && leb 4 p in
+    let m6 = eqb c 18 && not (eqb (n .a) 0 && eqb (n .b) 0 && leb (n .c) 1) in
+    let m7 = eqb c 1 && leb len 4 in
+    let h6 = neither (m1 || m2 || m3 || m4 || m5 || m6) m7 h .0 in
+    let h5 = neither (m1 || m2 || m3 || m4 || m5) m6 h6 in
+    let h4 = neither (m1 || m2 || m3 || m4) m5 (h5 .0) .0 in
+    let h3 = neither (m1 || m2 || m3) m4 h4 .0 in
+    let h2 = neither (m1 || m2) m3 h3 in
+    let h1 = neither m1 m2 (h2 .0) in
+    (parameter (hasParameter c) p (h2 .1), number (eqb c 18) (hasNumber c) n (h1 .1) (h5 .1))
+
+-- THE OCTETS
+
+one-more : (i : ℕ) (r : List ℕ) → i < length r → at r i ∷ drop (suc i) r ≡ drop i r
+one-more i [] h = absurd (omega arith)
+one-more zero (x ∷ r) h = refl
+one-more (suc i) (x ∷ r) h = one-more i r (omega arith)
+
+heads : (r : List ℕ) → 12 ≤ length r →
+    at r 0 ∷ at r 1 ∷ at r 2 ∷ at r 3 ∷ at r 4 ∷ at r 5 ∷ at r 6 ∷ at r 7 ∷ at r 8 ∷ at r 9 ∷ at r 10 ∷ at r 11 ∷ drop 12 r ≡ r
+heads r h =
+    rw (
+      one-more 11 r (omega arith),
+      one-more 10 r (omega arith),
+      one-more 9 r (omega arith),
+      one-more 8 r (omega arith),
+      one-more 7 r (omega arith),
+      one-more 6 r (omega arith),
+      one-more 5 r (omega arith),
+      one-more 4 r (omega arith),
+      one-more 3 r (omega arith),
+      one-more 2 r (omega arith),
+      one-more 1 r (omega arith),
+      one-more 0 r (omega arith),
+    )
+
+pub rewritten : Rewritten
+unfolding readingOf fieldsOf codedAt written
+rewritten e l x o h =
+    let c = at e 4 in
+    let p = at e 5 in
+    let n = numberAt e in
+    let len = lengthAt e in
+    let a = arrived (messageOf e) in
+    let r = holds (framed e) (among c (codes p n len a)) (misfit c p n len) (linkAt e) h in
+    let f = frame e (r .0) in
+    let k : carried x ≡ carrying c (cond (hasParameter c) p 0) (kept c n) = of-codes (Keeps p n) c (codes p n len a) (keeps p n len a) (r .1) in
+    let w = whole c p n len (r .2) in
+    let m : length (messageOf e) ≡ len = length-drop 12 e ∙ omega (arith, f .4) in
+    let e0 = sym (f .1) in
+    let e1 = sym (f .2) in
+    let e2 = ap (λ (y : ℕ). y / 256) (sym (r .3)) ∙ high-same (at e 2) (at e 3) (octet-at e o 3) in
+    let e3 = ap (λ (y : ℕ). y % 256) (sym (r .3)) ∙ low-same (at e 2) (at e 3) (octet-at e o 3) in
+    let e4 = ap (λ (y : Carried). y .code) k in
+    let e5 = ap (λ (y : Carried). y .param) k ∙ w .0 in
+    let e6 = ap (λ (y : Carried). y .num .a) k ∙ ap (λ (y : Num). y .a) (w .1) in
+    let e7 = ap (λ (y : Carried). y .num .b) k ∙ ap (λ (y : Num). y .b) (w .1) in
+    let e8 = ap (λ (y : Carried). y .num .c) k ∙ ap (λ (y : Num). y .c) (w .1) in
+    let e9 = sym (f .3) in
+    let e10 = ap (λ (y : ℕ). y / 256) m ∙ high-same (at e 10) (at e 11) (octet-at e o 11) in
+    let e11 = ap (λ (y : ℕ). y % 256) m ∙ low-same (at e 10) (at e 11) (octet-at e o 11) in
+    (λ i. e0 i ∷ e1 i ∷ e2 i ∷ e3 i ∷ e4 i ∷ e5 i ∷ e6 i ∷ e7 i ∷ e8 i ∷ e9 i ∷ e10 i ∷ e11 i ∷ messageOf e) ∙ heads e (f .0)
+
+-- READING WHAT WAS WRITTEN
+
+joined : (k : ℕ) → two (k / 256) (k % 256) ≡ k
+joined k = omega arith
+
+long : (l c p : ℕ) (n : Num) (m : List ℕ) → length (written l c p n m) ≡ 12 + length m
+unfolding written
+long l c p n m = omega arith
+
+frames : (l c p : ℕ) (n : Num) (m : List ℕ) → length m ≤ 4096 → framed (written l c p n m) ≡ true
+unfolding framed written
+frames l c p n m h =
+    rw (long l c p n m, joined (length m), le-leb 12 (12 + length m) (omega arith), le-leb (length m) 4096 h, eq-eqb (12 + length m) (12 + length m) refl)
+
+reads : (l c p : ℕ) (n : Num) (m : List ℕ) (e : Event) → codedAt c p n (length m) (arrived m) ≡ Coded.Of e → misfit c p n (length m) ≡ false →
+    fieldsOf (written l c p n m) ≡ Reading.Holds l e
+unfolding fieldsOf written
+reads l c p n m e x f = rw (joined (length m), joined l, x, f)
+
+row : (l c p : ℕ) (n : Num) (m : List ℕ) {e : Event} → length m ≤ 4096 → codedAt c p n (length m) (arrived m) ≡ Coded.Of e → misfit c p n (length m) ≡ false →
+    readingOf (written l c p n m) ≡ Reading.Holds l e
+unfolding readingOf
+row l c p n m {e} h x f = rw (frames l c p n m h) (reads l c p n m e x f)
+
+pub reread : Reread
+unfolding codedAt
+reread l p n m h =
+    (row l 1 p n m h refl, (row l 2 p n m h refl, (row l 3 p n m h refl, (row l 4 p n m h refl, (row l 5 p n m h refl, (row l 6 p n m h refl, (row l 7 p n m h refl, (row l 8 p n m h refl, (row l 9 p n m h refl, (row l 16 p n m h refl, (row l 17 p n m h refl, (row l 18 p n m h refl, (row l 19 p n m h refl, (row l 20 p n m h refl, (row l 21 p n m h refl, (row l 22 p n m h refl, (row l 23 p n m h refl, (row l 24 p n m h refl, (row l 25 p n m h refl, (row l 32 p n m h refl, (row l 33 p n m h refl, (row l 34 p n m h refl, (row l 35 p n m h refl, (row l 36 p n m h refl, (row l 37 p n m h refl, (row l 38 p n m h refl, (row l 39 p n m h refl, (row l 40 p n m h refl, (row l 48 p n m h refl, (row l 49 p n m h refl, (row l 50 p n m h refl, tt)))))))))))))))))))))))))))))))

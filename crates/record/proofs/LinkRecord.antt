@@ -181,10 +181,10 @@ timers-same c h = alike (λ k. bit (eqb (k % 2) 1) + 2 * bit (eqb (k / 2 % 2) 1)
 known-same : (c : ℕ) → c ≤ 1 → bit (eqb c 1) ≡ c
 known-same c h = alike (λ k. bit (eqb k 1)) (λ k. k) 2 0 refl c (omega arith)
 
-high-same : (a b : ℕ) → b < 256 → (a * 256 + b) / 256 ≡ a
+pub high-same : (a b : ℕ) → b < 256 → (a * 256 + b) / 256 ≡ a
 high-same a b h = omega arith
 
-low-same : (a b : ℕ) → b < 256 → (a * 256 + b) % 256 ≡ b
+pub low-same : (a b : ℕ) → b < 256 → (a * 256 + b) % 256 ≡ b
 low-same a b h = omega arith
 
 -- the twelve tests of a well-formed record, one by one
@@ -215,7 +215,7 @@ parts a b c d e f g h i j k m w =
       right (a && b && c && d && e && f && g && h && i && j && k) m w,
     )
 
-octet-at : (r : List ℕ) → Octets r → (i : ℕ) → at r i < 256
+pub octet-at : (r : List ℕ) → Octets r → (i : ℕ) → at r i < 256
 octet-at [] o i = omega arith
 octet-at (x ∷ r) o zero = o .0
 octet-at (x ∷ r) o (suc i) = octet-at r (o .1) i

@@ -1,5 +1,6 @@
 -- The event record of document 01: when its frame is sound, what a code says, and which fields fit it.
-use Prim.Native.Nat.{ℕ, _+_}
+use Prim.Native.Nat.{ℕ, _+_, _/_, _%_, _≤_}
+use mathlib.Core.Path.{_≡_}
 use mathlib.Core.Bool.{Bool, true, false, cond, not, _&&_, _||_}
 use mathlib.Core.List.{List, [], _∷_}
 use lib.Dec.{eqb, leb}
@@ -12,7 +13,8 @@ use Rattle.link.specs.declared.Event.{Event}
 use Rattle.link.specs.declared.Event.the-variants as event
 use Rattle.record.specs.declared.events.Coded.{Coded}
 use Rattle.record.specs.declared.events.Reading.{Reading}
-use Rattle.record.specs.Octets.{at, two}
+use Rattle.link.specs.Signal.{num, none}
+use Rattle.record.specs.Octets.{Octets, at, two}
 
 abbrev pub lengthAt : List ℕ → ℕ
 lengthAt e = two (at e 10) (at e 11)
@@ -130,3 +132,81 @@ fieldsOf e =
 
 unfoldable pub readingOf : List ℕ → Reading
 readingOf e = cond (framed e) (fieldsOf e) Reading.BadFrame
+
+-- ROUND TRIPS
+
+-- A record: link, code, parameter, number, and the message behind them.
+unfoldable pub written : ℕ → ℕ → ℕ → Num → List ℕ → List ℕ
+written link c p n m =
+    69  -- E
+    ∷ 86  -- V
+    ∷ (link / 256)
+    ∷ (link % 256)
+    ∷ c
+    ∷ p
+    ∷ n .a
+    ∷ n .b
+    ∷ n .c
+    ∷ 0
+    ∷ (length m / 256)
+    ∷ (length m % 256)
+    ∷ m
+
+abbrev pub Each : (Code → Type 0) → List Code → Type 0
+Each P [] = Unit {0}
+Each P (x ∷ others) = P x × Each P others
+
+-- Reading what was written: each code, with whatever fits it, is read as the list says.
+abbrev pub Reread : Type 0
+Reread =
+    (link p : ℕ) (n : Num) (m : List ℕ) → length m ≤ 4096 →
+    Each (λ x. misfit (x .code) p n (length m) ≡ false → readingOf (written link (x .code) p n m) ≡ Reading.Holds link (x .says)) (codes p n (length m) (arrived m))
+
+-- What an event carries.
+pub record Carried : Type 0 where
+  pub code : ℕ
+  pub param : ℕ
+  pub num : Num
+
+abbrev pub carrying : ℕ → ℕ → Num → Carried
+carrying c p n = record { code = c; param = p; num = n }
+
+abbrev pub carried : Event → Carried
+carried event.Message = carrying 1 0 none
+carried event.Emergency = carrying 2 0 none
+carried event.EmergencyCeases = carrying 3 0 none
+carried event.Stop = carrying 4 0 none
+carried event.Start = carrying 5 0 none
+carried event.RetrieveBsnt = carrying 6 0 none
+carried (event.Retrieval n) = carrying 7 0 n
+carried event.FlushBuffers = carrying 8 0 none
+carried event.Continue = carrying 9 0 none
+carried (event.EstablishIndication p) = carrying 16 p none
+carried (event.EstablishConfirm p) = carrying 17 p none
+carried (event.ReleaseIndication p s) = carrying 18 p (num 0 0 s)
+carried event.ReleaseConfirm = carrying 19 0 none
+carried (event.Data a n) = carrying 20 0 n
+carried event.Resync = carrying 21 0 none
+carried event.Recover = carrying 22 0 none
+carried event.UnitData = carrying 23 0 none
+carried (event.Retrieve len) = carrying 24 0 none
+carried event.RetrieveComplete = carrying 25 0 none
+carried event.ProvingUnsuccessful = carrying 32 0 none
+carried event.Release = carrying 33 0 none
+carried event.Outage = carrying 34 0 none
+carried event.Recovered = carrying 35 0 none
+carried event.ForceProving = carrying 36 0 none
+carried event.ForceEmergency = carrying 37 0 none
+carried event.ClearForceModes = carrying 38 0 none
+carried (event.Congestion p) = carrying 39 p none
+carried event.CongestionCeased = carrying 40 0 none
+carried event.T1 = carrying 48 0 none
+carried event.T2 = carrying 49 0 none
+carried event.T3 = carrying 50 0 none
+
+abbrev pub eventOctets : ℕ → Event → List ℕ → List ℕ
+eventOctets link e m = written link (carried e .code) (carried e .param) (carried e .num) m
+
+-- Writing what was read gives the same octets: nothing in a record that is taken goes unread.
+abbrev pub Rewritten : Type 0
+Rewritten = (e : List ℕ) (link : ℕ) (x : Event) → Octets e → readingOf e ≡ Reading.Holds link x → eventOctets link x (messageOf e) ≡ e
