@@ -1,5 +1,5 @@
 -- The event record's round trips, and that a sound frame has its twelve octets. Assumes nothing.
-use Prim.Native.Nat.{ℕ, zero, suc, _+_, _-_, _/_, _%_, _≤_, _<_}
+use Prim.Native.Nat.{ℕ, zero, suc, _+_, _/_, _%_, _≤_, _<_}
 use native.Mathlib.Omega.{arith}
 use mathlib.Core.Path.{_≡_, refl, sym, ap, subst, _∙_}
 use mathlib.Core.Bool.{Bool, true, false, cond, not, _&&_, _||_, true≢false}
@@ -16,8 +16,8 @@ use Rattle.link.specs.declared.Event.the-variants as event
 use Rattle.link.specs.Signal.{num, none}
 use Rattle.record.specs.declared.events.Coded.{Coded}
 use Rattle.record.specs.declared.events.Reading.{Reading}
-use Rattle.record.specs.Octets.{Octets, at, two}
-use Rattle.record.specs.EventRecord.{framed, lengthAt, linkAt, numberAt, messageOf, Code, codes, among, Each, codedAt, isStatus, hasMessage, hasNumber, hasParameter, misfit, fitting, fieldsOf, readingOf, Carried, carrying, carried, written, eventOctets, Rewritten, Reread}
+use Rattle.record.specs.Octets.{at, two}
+use Rattle.record.specs.EventRecord.{framed, lengthAt, linkAt, numberAt, messageOf, Code, codes, among, Each, codedAt, isStatus, hasMessage, hasNumber, hasParameter, misfit, fitting, fieldsOf, readingOf, Carried, carrying, carried, written, Rewritten, Reread}
 use Rattle.record.proofs.LinkRecord.{octet-at, high-same, low-same}
 
 -- the parts of a sound frame

@@ -1,5 +1,4 @@
 -- `events::coded_as` meets its contract: at each code the list computes, and past them none is left. Assumes nothing.
-use mathlib.Core.Path.{ap, sym}
 use borrow.Author.Tests.{ne-eqb}
 use Rattle.record.specs.EventRecord.{codedAt}
 use Rattle.record.proofs.events.coded_as.Statement.{statement}

@@ -1,11 +1,9 @@
 -- `events::read_event` meets its contract. Assumes nothing.
-use Prim.Native.Nat.{ℕ, _≤_}
+use Prim.Native.Nat.{ℕ}
 use mathlib.Core.Path.{_≡_, sym, _∙_}
-use mathlib.Core.Bool.{Bool, true, false}
+use mathlib.Core.Bool.{true, false}
 use mathlib.Core.List.{List}
 use borrow.Author.Needs.{needs}
-use borrow.Author.Tests.{leb-true}
-use lib.ListN.{length}
 use Rattle.record.specs.declared.events.Reading.{Reading}
 use Rattle.record.specs.EventRecord.{framed, fieldsOf, readingOf}
 use Rattle.record.proofs.EventRecord.{twelve}
