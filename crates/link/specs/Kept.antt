@@ -1,17 +1,36 @@
--- What every step keeps, whatever the record and the event: n1, and a C1 that is at most n1; and how many signals there are at most.
-use Prim.Native.Nat.{ℕ, _≤_}
+-- What every step keeps, whatever the record and the event: n1, a C1 that is at most n1, and a BSNT of 0 where none is known; how many signals there are
+-- at most, and that at most one of them carries the event's message.
+use Prim.Native.Nat.{ℕ, _+_, _≤_}
 use mathlib.Core.Path.{_≡_}
-use mathlib.Core.List.{List}
+use mathlib.Core.Bool.{false}
+use mathlib.Core.List.{List, [], _∷_}
 use lib.ListN.{length}
+use Rattle.link.specs.declared.Bsnt.{Bsnt}
 use Rattle.link.specs.declared.Link.{Link}
+use Rattle.link.specs.declared.Carries.{Carries}
 use Rattle.link.specs.declared.Signal.{Signal}
 use Rattle.link.specs.declared.Event.{Event}
+use Rattle.link.specs.Signal.{none}
 use Rattle.link.specs.Step.{Outcome, Illegal, Legal, stepOf}
+
+abbrev pub NoneIsZero : Bsnt → Type 0
+NoneIsZero b = b .known ≡ false → b .num ≡ none
+
+abbrev pub messagesIn : Carries → ℕ
+messagesIn Carries.Nothing = 0
+messagesIn (Carries.Unit s) = 0
+messagesIn Carries.Message = 1
+
+abbrev pub messages : List Signal → ℕ
+messages [] = 0
+messages (s ∷ others) = messagesIn (s .carries) + messages others
 
 pub record After (l after : Link) (said : List Signal) : Type 0 where
   pub n1 : after .n1 ≡ l .n1
   pub c1 : l .c1 ≤ l .n1 → after .c1 ≤ after .n1
+  pub bsnt : NoneIsZero (l .bsnt) → NoneIsZero (after .bsnt)
   pub five : length said ≤ 5
+  pub one-message : messages said ≤ 1
 
 abbrev pub Keeps : Link → Outcome → Type 0
 Keeps l Illegal = Unit {0}

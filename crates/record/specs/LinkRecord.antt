@@ -1,7 +1,7 @@
 -- The link record of document 01: sixteen octets, what they hold, and when they are well-formed.
 use Prim.Native.Nat.{ℕ, _+_, _*_, _/_, _%_, _≤_}
 use mathlib.Core.Path.{_≡_}
-use mathlib.Core.Bool.{Bool, true, false, cond, _&&_, _||_}
+use mathlib.Core.Bool.{Bool, true, cond, _&&_, _||_}
 use mathlib.Core.List.{List, [], _∷_}
 use lib.Dec.{eqb, leb}
 use lib.ListN.{getD, length}
@@ -12,7 +12,7 @@ use Rattle.table6.specs.declared.State.{State}
 use Rattle.link.specs.declared.Num.{Num}
 use Rattle.link.specs.declared.Bsnt.{Bsnt}
 use Rattle.link.specs.declared.Link.{Link}
-use Rattle.link.specs.Signal.{none}
+use Rattle.link.specs.Kept.{NoneIsZero}
 use Rattle.record.specs.declared.Slot.{Slot}
 use Rattle.record.specs.Octets.{Octets, at, two, bit}
 
@@ -99,7 +99,7 @@ Unpacked = (l : Link) → linkOf (octetsOf l) ≡ l
 
 -- What was packed is well-formed, where n1 is at least 1 and a BSNT that isn't known is 0.
 abbrev pub GoodLink : Link → Type 0
-GoodLink l = (1 ≤ l .n1) × (l .bsnt .known ≡ false → l .bsnt .num ≡ none)
+GoodLink l = (1 ≤ l .n1) × NoneIsZero (l .bsnt)
 
 abbrev pub PackedWell : Type 0
 PackedWell = (l : Link) → GoodLink l → wellFormed (octetsOf l) ≡ true

@@ -9,11 +9,15 @@ use Rattle.table6.specs.declared.Facts.{Facts}
 use Rattle.table6.specs.Cell.{Act, holds, Cell, Illegal, to, _⨟_, IF_THEN_ELSE_, Row, cell, Choice, illegal, does, after, chosen}
 use Rattle.table6.specs.Table6.{AAL-MESSAGE-FOR-TRANSMISSION-request, AAL-EMERGENCY-request, AAL-EMERGENCY-CEASES-request, AAL-STOP-request, AAL-START-request, AAL-RETRIEVE-BSNT-request, AAL-RETRIEVAL-REQUEST-AND-FSNC-request, AAL-FLUSH-BUFFERS-request, AAL-CONTINUE-request, AA-ESTABLISH-indication-with-EM-NM, AA-ESTABLISH-indication-with-others, AA-ESTABLISH-confirm-with-EM-NM, AA-ESTABLISH-confirm-with-others, AA-RELEASE-indication-from-User, AA-RELEASE-indication-from-SSCOP, AA-RELEASE-confirm, AA-DATA-indication-with-INS, AA-DATA-indication-with-NM, AA-DATA-indication-with-other, AA-DATA-indication-with-MU>4, AA-RESYNC-indication, AA-RECOVER-indication, AA-UNITDATA-indication, AA-RETRIEVE-indication, AA-RETRIEVE-COMPLETE-indication, MAAL-PROVING-UNSUCCESSFUL-response, MAAL-RELEASE-request, MAAL-LOCAL-PROCESSOR-OUTAGE-request, MAAL-LOCAL-PROCESSOR-RECOVERED-request, MAAL-FORCE-PROVING-request, MAAL-FORCE-EMERGENCY-request, MAAL-CLEAR-FORCE-MODES-request, Local-Congestion, Local-Congestion-Ceased, T1-expires, T2-expires, T3-expires-and-C1>0, T3-expires-and-C1=0}
 use Rattle.table6.specs.Rows.{Printed, one, two, printed, Heading, rows, nowhere, heading}
-use Rattle.table6.specs.Every.{Test, in-cell, in-states, in-row, in-printed, in-rows, Every, stop, but-stop, five, in-service, out-of-service, not-told, release, response, proving}
+use Rattle.table6.specs.Every.{Test, in-cell, in-states, in-row, in-printed, in-rows, Every, stop, but-stop, five, one-message, in-service, out-of-service, not-told, release, response, proving}
 
 pub at-most-five : Every five
 unfolding AAL-MESSAGE-FOR-TRANSMISSION-request AAL-EMERGENCY-request AAL-EMERGENCY-CEASES-request AAL-STOP-request AAL-START-request AAL-RETRIEVE-BSNT-request AAL-RETRIEVAL-REQUEST-AND-FSNC-request AAL-FLUSH-BUFFERS-request AAL-CONTINUE-request AA-ESTABLISH-indication-with-EM-NM AA-ESTABLISH-indication-with-others AA-ESTABLISH-confirm-with-EM-NM AA-ESTABLISH-confirm-with-others AA-RELEASE-indication-from-User AA-RELEASE-indication-from-SSCOP AA-RELEASE-confirm AA-DATA-indication-with-INS AA-DATA-indication-with-NM AA-DATA-indication-with-other AA-DATA-indication-with-MU>4 AA-RESYNC-indication AA-RECOVER-indication AA-UNITDATA-indication AA-RETRIEVE-indication AA-RETRIEVE-COMPLETE-indication MAAL-PROVING-UNSUCCESSFUL-response MAAL-RELEASE-request MAAL-LOCAL-PROCESSOR-OUTAGE-request MAAL-LOCAL-PROCESSOR-RECOVERED-request MAAL-FORCE-PROVING-request MAAL-FORCE-EMERGENCY-request MAAL-CLEAR-FORCE-MODES-request Local-Congestion Local-Congestion-Ceased T1-expires T2-expires T3-expires-and-C1>0 T3-expires-and-C1=0
 at-most-five = refl
+
+pub at-most-one-message : Every one-message
+unfolding AAL-MESSAGE-FOR-TRANSMISSION-request AAL-EMERGENCY-request AAL-EMERGENCY-CEASES-request AAL-STOP-request AAL-START-request AAL-RETRIEVE-BSNT-request AAL-RETRIEVAL-REQUEST-AND-FSNC-request AAL-FLUSH-BUFFERS-request AAL-CONTINUE-request AA-ESTABLISH-indication-with-EM-NM AA-ESTABLISH-indication-with-others AA-ESTABLISH-confirm-with-EM-NM AA-ESTABLISH-confirm-with-others AA-RELEASE-indication-from-User AA-RELEASE-indication-from-SSCOP AA-RELEASE-confirm AA-DATA-indication-with-INS AA-DATA-indication-with-NM AA-DATA-indication-with-other AA-DATA-indication-with-MU>4 AA-RESYNC-indication AA-RECOVER-indication AA-UNITDATA-indication AA-RETRIEVE-indication AA-RETRIEVE-COMPLETE-indication MAAL-PROVING-UNSUCCESSFUL-response MAAL-RELEASE-request MAAL-LOCAL-PROCESSOR-OUTAGE-request MAAL-LOCAL-PROCESSOR-RECOVERED-request MAAL-FORCE-PROVING-request MAAL-FORCE-EMERGENCY-request MAAL-CLEAR-FORCE-MODES-request Local-Congestion Local-Congestion-Ceased T1-expires T2-expires T3-expires-and-C1>0 T3-expires-and-C1=0
+at-most-one-message = refl
 
 pub in-service-said : Every in-service
 unfolding AAL-MESSAGE-FOR-TRANSMISSION-request AAL-EMERGENCY-request AAL-EMERGENCY-CEASES-request AAL-STOP-request AAL-START-request AAL-RETRIEVE-BSNT-request AAL-RETRIEVAL-REQUEST-AND-FSNC-request AAL-FLUSH-BUFFERS-request AAL-CONTINUE-request AA-ESTABLISH-indication-with-EM-NM AA-ESTABLISH-indication-with-others AA-ESTABLISH-confirm-with-EM-NM AA-ESTABLISH-confirm-with-others AA-RELEASE-indication-from-User AA-RELEASE-indication-from-SSCOP AA-RELEASE-confirm AA-DATA-indication-with-INS AA-DATA-indication-with-NM AA-DATA-indication-with-other AA-DATA-indication-with-MU>4 AA-RESYNC-indication AA-RECOVER-indication AA-UNITDATA-indication AA-RETRIEVE-indication AA-RETRIEVE-COMPLETE-indication MAAL-PROVING-UNSUCCESSFUL-response MAAL-RELEASE-request MAAL-LOCAL-PROCESSOR-OUTAGE-request MAAL-LOCAL-PROCESSOR-RECOVERED-request MAAL-FORCE-PROVING-request MAAL-FORCE-EMERGENCY-request MAAL-CLEAR-FORCE-MODES-request Local-Congestion Local-Congestion-Ceased T1-expires T2-expires T3-expires-and-C1>0 T3-expires-and-C1=0

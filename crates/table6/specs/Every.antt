@@ -1,13 +1,14 @@
 -- What holds of every cell of Table 6, as tests that the checker computes over the whole table: how much a cell says, and which cells say the
 -- signals that matter most.
-use Prim.Native.Nat.{ℕ}
+use Prim.Native.Nat.{ℕ, _+_}
 use mathlib.Core.Path.{_≡_}
 use mathlib.Core.Bool.{Bool, true, false, cond, not, _&&_, _||_}
 use mathlib.Core.List.{List, [], _∷_, _++_}
 use lib.Dec.{eqb, leb}
 use lib.ListN.{length, take, drop}
 use Rattle.table6.specs.declared.State.{State}
-use Rattle.table6.specs.Words.{1/1/1, 1/4/1, 2/1/2, 2/4/2, 2/10/3, 3/10/5}
+use Rattle.table6.specs.Words.{1/1/1, 1/4/1, 2/1/2, 2/4/2, 2/10/3, 3/10/5, NM, INS}
+use Rattle.table6.specs.Words as words
 use Rattle.table6.specs.Cell.{Timer, Act, AAL-RECEIVED-MESSAGE-indication, AAL-LINK-CONGESTED-indication, AAL-LINK-CONGESTION-CEASED-indication, AAL-IN-SERVICE-indication, AAL-OUT-OF-SERVICE-indication, AAL-RETRIEVED-MESSAGES-indication, AAL-RETRIEVAL-COMPLETE-indication, AAL-BSNT-confirm, AAL-BSNT-NOT-RETRIEVABLE-confirm, AA-ESTABLISH-request, AA-ESTABLISH-response, AA-RELEASE-request, AA-DATA-request, AA-RECOVER-response, AA-RETRIEVE-request, MAAL-PROVING-indication, MAAL-STOP-PROVING-indication, MAAL-REPORT-indication, Set-UPS=NM, Set-UPS=EM, Set-MPS=N, Set-MPS=NM, Set-MPS=EM, Set-LPO=0, Set-LPO=1, Set-INS-flag, Reset-INS-flag, Generate-N1, Set-C1=N1, Decrement-C1, Set, Reset, connection-up, take-BSNT, end, Cell, Illegal, to, _⨟_, IF_THEN_ELSE_, Row, cell}
 use Rattle.table6.specs.Order.{signals}
 use Rattle.table6.specs.Stored.{place}
@@ -50,21 +51,21 @@ stop = plain AAL-STOP-request ∷ []
 abbrev pub but-stop : List Heading
 but-stop = take 3 rows ++ drop 4 rows
 
--- the signals that are asked for
+-- the signals that are asked for; 6: those that carry the event's own message
 abbrev pub kind : Act → ℕ
-kind AAL-RECEIVED-MESSAGE-indication = 0
+kind AAL-RECEIVED-MESSAGE-indication = 6
 kind AAL-LINK-CONGESTED-indication = 0
 kind AAL-LINK-CONGESTION-CEASED-indication = 0
 kind AAL-IN-SERVICE-indication = 1
 kind AAL-OUT-OF-SERVICE-indication = 2
-kind AAL-RETRIEVED-MESSAGES-indication = 0
+kind AAL-RETRIEVED-MESSAGES-indication = 6
 kind AAL-RETRIEVAL-COMPLETE-indication = 0
 kind AAL-BSNT-confirm = 0
 kind AAL-BSNT-NOT-RETRIEVABLE-confirm = 0
 kind AA-ESTABLISH-request = 0
 kind AA-ESTABLISH-response = 4
 kind (AA-RELEASE-request uu) = 3
-kind (AA-DATA-request mu) = 0
+kind (AA-DATA-request mu) = cond (words.is mu NM) 0 (cond (words.is mu INS) 0 6)
 kind AA-RECOVER-response = 0
 kind AA-RETRIEVE-request = 0
 kind MAAL-PROVING-indication = 5
@@ -92,6 +93,10 @@ abbrev pub says : ℕ → List Act → Bool
 says k [] = false
 says k (a ∷ acts) = eqb (kind a) k || says k acts
 
+abbrev pub often : ℕ → List Act → ℕ
+often k [] = 0
+often k (a ∷ acts) = cond (eqb (kind a) k) 1 0 + often k acts
+
 abbrev pub same : Bool → Bool → Bool
 same a b = cond a b (not b)
 
@@ -101,6 +106,10 @@ is s t = eqb (place s) (place t)
 -- AT MOST FIVE: no cell says more signals.
 abbrev pub five : Test
 five s acts next = leb (length (signals acts)) 5
+
+-- AT MOST ONE MESSAGE: no cell says the event's own message twice.
+abbrev pub one-message : Test
+one-message s acts next = leb (often 6 (signals acts)) 1
 
 -- IN_SERVICE is said exactly where 3/10/5 is entered.
 abbrev pub in-service : Test
