@@ -10,7 +10,7 @@ use Rattle.link.proofs.signals.count.Reads as count
 use Rattle.link.proofs.signals.signal_at.Kinds as signal-at-kinds
 use Rattle.link.proofs.signals.signal_at.Reads as signal-at
 
-pub step-one : OneReading step-kinds.ps step-kinds.r (λ κs. Outcome) (λ κs arguments x. heard x) step.Post
+pub step-one : OneReading step-kinds.ps step-kinds.r Outcome (λ κs arguments x e. heard x) step.Post
 step-one κs arguments x y e f = equal
 
 pub count-one : OneAnswer count-kinds.ps count-kinds.r count.Post

@@ -1,4 +1,4 @@
--- The event record's round trips, and that a sound frame has its twelve octets. Assumes nothing.
+-- The event record's round trips. Assumes nothing.
 use Prim.Native.Nat.{ℕ, zero, suc, _+_, _/_, _%_, _≤_, _<_}
 use native.Mathlib.Omega.{arith}
 use mathlib.Core.Path.{_≡_, refl, sym, ap, subst, _∙_}
@@ -16,33 +16,10 @@ use Rattle.link.specs.declared.Event.the-variants as event
 use Rattle.link.specs.Signal.{num, none}
 use Rattle.record.specs.declared.events.Coded.{Coded}
 use Rattle.record.specs.declared.events.Reading.{Reading}
-use Rattle.record.specs.Octets.{at, two}
-use Rattle.record.specs.EventRecord.{framed, lengthAt, linkAt, numberAt, messageOf, Code, codes, among, Each, codedAt, isStatus, hasMessage, hasNumber, hasParameter, misfit, fitting, fieldsOf, readingOf, Carried, carrying, carried, written, Rewritten, Reread}
-use Rattle.record.proofs.LinkRecord.{octet-at, high-same, low-same}
-
--- the parts of a sound frame
-frame : (e : List ℕ) → framed e ≡ true → (12 ≤ length e) × (at e 0 ≡ 69) × (at e 1 ≡ 86) × (at e 9 ≡ 0) × (12 + lengthAt e ≡ length e)
-unfolding framed
-frame e f =
-    let a = leb 12 (length e) in
-    let b = eqb (at e 0) 69 in
-    let c = eqb (at e 1) 86 in
-    let d = eqb (at e 9) 0 in
-    let g = leb (lengthAt e) 4096 in
-    let h = eqb (12 + lengthAt e) (length e) in
-    let w5 = right a (b && c && d && g && h) f in
-    let w4 = left (b && c && d && g) h w5 in
-    let w3 = left (b && c && d) g w4 in
-    let w2 = left (b && c) d w3 in (
-      leb-true 12 (length e) (left a (b && c && d && g && h) f),
-      eqb-true (at e 0) 69 (left b c w2),
-      eqb-true (at e 1) 86 (right b c w2),
-      eqb-true (at e 9) 0 (right (b && c) d w3),
-      eqb-true (12 + lengthAt e) (length e) (right (b && c && d && g) h w5),
-    )
-
-pub twelve : (e : List ℕ) → framed e ≡ true → 12 ≤ length e
-twelve e f = frame e f .0
+use Rattle.record.specs.Octets.{at}
+use Rattle.record.specs.Frame.{EV, lengthAt, linkAt, numberAt, messageOf, written}
+use Rattle.record.specs.EventRecord.{framed, Code, codes, among, Each, codedAt, isStatus, hasMessage, hasNumber, hasParameter, misfit, fitting, fieldsOf, readingOf, Carried, carrying, carried, Rewritten, Reread}
+use Rattle.record.proofs.Frame.{frame-rewritten, frame-reread, two-back}
 
 -- WHAT A TAKEN READING SAYS
 
@@ -148,33 +125,10 @@ whole c p n len h =
     let h1 = neither m1 m2 (h2 .0) in
     (parameter (hasParameter c) p (h2 .1), number (eqb c 18) (hasNumber c) n (h1 .1) (h5 .1))
 
--- THE OCTETS
-
-one-more : (i : ℕ) (r : List ℕ) → i < length r → at r i ∷ drop (suc i) r ≡ drop i r
-one-more i [] h = absurd (omega arith)
-one-more zero (x ∷ r) h = refl
-one-more (suc i) (x ∷ r) h = one-more i r (omega arith)
-
-heads : (r : List ℕ) → 12 ≤ length r →
-    at r 0 ∷ at r 1 ∷ at r 2 ∷ at r 3 ∷ at r 4 ∷ at r 5 ∷ at r 6 ∷ at r 7 ∷ at r 8 ∷ at r 9 ∷ at r 10 ∷ at r 11 ∷ drop 12 r ≡ r
-heads r h =
-    rw (
-      one-more 11 r (omega arith),
-      one-more 10 r (omega arith),
-      one-more 9 r (omega arith),
-      one-more 8 r (omega arith),
-      one-more 7 r (omega arith),
-      one-more 6 r (omega arith),
-      one-more 5 r (omega arith),
-      one-more 4 r (omega arith),
-      one-more 3 r (omega arith),
-      one-more 2 r (omega arith),
-      one-more 1 r (omega arith),
-      one-more 0 r (omega arith),
-    )
+-- WRITING WHAT WAS READ
 
 pub rewritten : Rewritten
-unfolding readingOf fieldsOf codedAt written
+unfolding readingOf fieldsOf codedAt
 rewritten e l x o h =
     let c = at e 4 in
     let p = at e 5 in
@@ -182,47 +136,24 @@ rewritten e l x o h =
     let len = lengthAt e in
     let a = arrived (messageOf e) in
     let r = holds (framed e) (among c (codes p n len a)) (misfit c p n len) (linkAt e) h in
-    let f = frame e (r .0) in
     let k : carried x ≡ carrying c (cond (hasParameter c) p 0) (kept c n) = of-codes (Keeps p n) c (codes p n len a) (keeps p n len a) (r .1) in
     let w = whole c p n len (r .2) in
-    let m : length (messageOf e) ≡ len = length-drop 12 e ∙ omega (arith, f .4) in
-    let e0 = sym (f .1) in
-    let e1 = sym (f .2) in
-    let e2 = ap (λ (y : ℕ). y / 256) (sym (r .3)) ∙ high-same (at e 2) (at e 3) (octet-at e o 3) in
-    let e3 = ap (λ (y : ℕ). y % 256) (sym (r .3)) ∙ low-same (at e 2) (at e 3) (octet-at e o 3) in
     let e4 = ap (λ (y : Carried). y .code) k in
     let e5 = ap (λ (y : Carried). y .param) k ∙ w .0 in
-    let e6 = ap (λ (y : Carried). y .num .a) k ∙ ap (λ (y : Num). y .a) (w .1) in
-    let e7 = ap (λ (y : Carried). y .num .b) k ∙ ap (λ (y : Num). y .b) (w .1) in
-    let e8 = ap (λ (y : Carried). y .num .c) k ∙ ap (λ (y : Num). y .c) (w .1) in
-    let e9 = sym (f .3) in
-    let e10 = ap (λ (y : ℕ). y / 256) m ∙ high-same (at e 10) (at e 11) (octet-at e o 11) in
-    let e11 = ap (λ (y : ℕ). y % 256) m ∙ low-same (at e 10) (at e 11) (octet-at e o 11) in
-    (λ i. e0 i ∷ e1 i ∷ e2 i ∷ e3 i ∷ e4 i ∷ e5 i ∷ e6 i ∷ e7 i ∷ e8 i ∷ e9 i ∷ e10 i ∷ e11 i ∷ messageOf e) ∙ heads e (f .0)
+    let e6 = ap (λ (y : Carried). y .num) k ∙ w .1 in
+    (λ i. written EV (sym (r .3) i) (e4 i) (e5 i) (e6 i) (messageOf e)) ∙ frame-rewritten EV e o (r .0)
 
 -- READING WHAT WAS WRITTEN
 
-joined : (k : ℕ) → two (k / 256) (k % 256) ≡ k
-joined k = omega arith
-
-long : (l c p : ℕ) (n : Num) (m : List ℕ) → length (written l c p n m) ≡ 12 + length m
-unfolding written
-long l c p n m = omega arith
-
-frames : (l c p : ℕ) (n : Num) (m : List ℕ) → length m ≤ 4096 → framed (written l c p n m) ≡ true
-unfolding framed written
-frames l c p n m h =
-    rw (long l c p n m, joined (length m), le-leb 12 (12 + length m) (omega arith), le-leb (length m) 4096 h, eq-eqb (12 + length m) (12 + length m) refl)
-
 reads : (l c p : ℕ) (n : Num) (m : List ℕ) (e : Event) → codedAt c p n (length m) (arrived m) ≡ Coded.Of e → misfit c p n (length m) ≡ false →
-    fieldsOf (written l c p n m) ≡ Reading.Holds l e
+    fieldsOf (written EV l c p n m) ≡ Reading.Holds l e
 unfolding fieldsOf written
-reads l c p n m e x f = rw (joined (length m), joined l, x, f)
+reads l c p n m e x f = rw (two-back (length m), two-back l, x, f)
 
 row : (l c p : ℕ) (n : Num) (m : List ℕ) {e : Event} → length m ≤ 4096 → codedAt c p n (length m) (arrived m) ≡ Coded.Of e → misfit c p n (length m) ≡ false →
-    readingOf (written l c p n m) ≡ Reading.Holds l e
+    readingOf (written EV l c p n m) ≡ Reading.Holds l e
 unfolding readingOf
-row l c p n m {e} h x f = rw (frames l c p n m h) (reads l c p n m e x f)
+row l c p n m {e} h x f = rw (frame-reread EV l c p n m h) (reads l c p n m e x f)
 
 pub reread : Reread
 unfolding codedAt

@@ -1,10 +1,10 @@
 -- The event record of document 01: when its frame is sound, what a code says, and which fields fit it.
-use Prim.Native.Nat.{ℕ, _+_, _/_, _%_, _≤_}
+use Prim.Native.Nat.{ℕ, _≤_}
 use mathlib.Core.Path.{_≡_}
 use mathlib.Core.Bool.{Bool, true, false, cond, not, _&&_, _||_}
 use mathlib.Core.List.{List, [], _∷_}
 use lib.Dec.{eqb, leb}
-use lib.ListN.{length, drop}
+use lib.ListN.{length}
 use Rattle.unit.specs.declared.Arrived.{Arrived}
 use Rattle.unit.specs.declared.Field.{Field}
 use Rattle.unit.specs.Unit.{decoded, arrived}
@@ -14,29 +14,11 @@ use Rattle.link.specs.declared.Event.the-variants as event
 use Rattle.record.specs.declared.events.Coded.{Coded}
 use Rattle.record.specs.declared.events.Reading.{Reading}
 use Rattle.link.specs.Signal.{num, none}
-use Rattle.record.specs.Octets.{Octets, at, two}
+use Rattle.record.specs.Octets.{Octets}
+use Rattle.record.specs.Frame.{EV, framedAs, written, linkAt, codeAt, paramAt, numberAt, lengthAt, messageOf}
 
-abbrev pub lengthAt : List ℕ → ℕ
-lengthAt e = two (at e 10) (at e 11)
-
-abbrev pub linkAt : List ℕ → ℕ
-linkAt e = two (at e 2) (at e 3)
-
-abbrev pub numberAt : List ℕ → Num
-numberAt e = record { a = at e 6; b = at e 7; c = at e 8 }
-
-abbrev pub messageOf : List ℕ → List ℕ
-messageOf e = drop 12 e
-
--- At least twelve octets, the mark, octet 9 zero, and a length of at most 4,096 that is the length of what follows.
-unfoldable pub framed : List ℕ → Bool
-framed e =
-    leb 12 (length e)
-    && (eqb (at e 0) 69  -- E
-    && eqb (at e 1) 86  -- V
-    && eqb (at e 9) 0
-    && leb (lengthAt e) 4096
-    && eqb (12 + lengthAt e) (length e))
+abbrev pub framed : List ℕ → Bool
+framed e = framedAs EV e
 
 pub record Code : Type 0 where
   pub code : ℕ
@@ -126,31 +108,14 @@ fitting (Coded.Of e) m l = cond m Reading.Misfit (Reading.Holds l e)
 unfoldable pub fieldsOf : List ℕ → Reading
 fieldsOf e =
     fitting
-    (codedAt (at e 4) (at e 5) (numberAt e) (lengthAt e) (arrived (messageOf e)))
-    (misfit (at e 4) (at e 5) (numberAt e) (lengthAt e))
+    (codedAt (codeAt e) (paramAt e) (numberAt e) (lengthAt e) (arrived (messageOf e)))
+    (misfit (codeAt e) (paramAt e) (numberAt e) (lengthAt e))
     (linkAt e)
 
 unfoldable pub readingOf : List ℕ → Reading
 readingOf e = cond (framed e) (fieldsOf e) Reading.BadFrame
 
 -- ROUND TRIPS
-
--- A record: link, code, parameter, number, and the message behind them.
-unfoldable pub written : ℕ → ℕ → ℕ → Num → List ℕ → List ℕ
-written link c p n m =
-    69  -- E
-    ∷ 86  -- V
-    ∷ (link / 256)
-    ∷ (link % 256)
-    ∷ c
-    ∷ p
-    ∷ n .a
-    ∷ n .b
-    ∷ n .c
-    ∷ 0
-    ∷ (length m / 256)
-    ∷ (length m % 256)
-    ∷ m
 
 abbrev pub Each : (Code → Type 0) → List Code → Type 0
 Each P [] = Unit {0}
@@ -160,7 +125,7 @@ Each P (x ∷ others) = P x × Each P others
 abbrev pub Reread : Type 0
 Reread =
     (link p : ℕ) (n : Num) (m : List ℕ) → length m ≤ 4096 →
-    Each (λ x. misfit (x .code) p n (length m) ≡ false → readingOf (written link (x .code) p n m) ≡ Reading.Holds link (x .says)) (codes p n (length m) (arrived m))
+    Each (λ x. misfit (x .code) p n (length m) ≡ false → readingOf (written EV link (x .code) p n m) ≡ Reading.Holds link (x .says)) (codes p n (length m) (arrived m))
 
 -- What an event carries.
 pub record Carried : Type 0 where
@@ -205,7 +170,7 @@ carried event.T2 = carrying 49 0 none
 carried event.T3 = carrying 50 0 none
 
 abbrev pub eventOctets : ℕ → Event → List ℕ → List ℕ
-eventOctets link e m = written link (carried e .code) (carried e .param) (carried e .num) m
+eventOctets link e m = written EV link (carried e .code) (carried e .param) (carried e .num) m
 
 -- Writing what was read gives the same octets: nothing in a record that is taken goes unread.
 abbrev pub Rewritten : Type 0

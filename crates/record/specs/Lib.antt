@@ -1,3 +1,5 @@
 pub mod Octets
 pub mod LinkRecord
+pub mod Frame
 pub mod EventRecord
+pub mod SignalRecord

@@ -1,8 +1,8 @@
--- Octets, and numbers of two octets.
+-- Octets, numbers of two octets, and octets written over others.
 use Prim.Native.Nat.{ℕ, _+_, _*_, _<_}
 use mathlib.Core.Bool.{Bool, cond}
-use mathlib.Core.List.{List, [], _∷_}
-use lib.ListN.{getD}
+use mathlib.Core.List.{List, [], _∷_, _++_}
+use lib.ListN.{length, take, drop, getD}
 
 -- the octet i of a list
 abbrev pub at : List ℕ → ℕ → ℕ
@@ -18,3 +18,11 @@ bit b = cond b 1 0
 abbrev pub Octets : List ℕ → Type 0
 Octets [] = Unit {0}
 Octets (x ∷ r) = (x < 256) × Octets r
+
+-- d with s written over its front
+unfoldable pub over : List ℕ → List ℕ → List ℕ
+over s d = s ++ drop (length s) d
+
+-- d with s written from place a
+unfoldable pub putAt : List ℕ → ℕ → List ℕ → List ℕ
+putAt d a s = take a d ++ over s (drop a d)

@@ -1,5 +1,7 @@
-// The records of document 01 as octets: a link's sixteen, and back; an event's.
+// The records of document 01 as octets: a link's sixteen, and back; an event's, read; a signal's, written.
 pub mod events;
+pub mod signals;
+pub mod writing;
 
 use link::Bsnt;
 use link::Link;

@@ -16,5 +16,5 @@ change-of-one κs arguments x y e f = equal
 pub says-of-one : OneAnswer says-of-kinds.ps says-of-kinds.r says-of.Post
 says-of-one κs arguments x y e f = equal
 
-pub cell-one : OneReading cell-kinds.ps cell-kinds.r (λ κs. Summed) (λ κs arguments x. metAs (arguments .1 .0) x) cell.Post
+pub cell-one : OneReading cell-kinds.ps cell-kinds.r Summed (λ κs arguments x e. metAs (arguments .1 .0) x) cell.Post
 cell-one κs arguments x y e f = equal

@@ -7,7 +7,8 @@ use Rattle.unit.specs.declared.Arrived.{Arrived}
 use Rattle.unit.specs.Unit.{arrived}
 use Rattle.record.specs.declared.events.Coded.{Coded}
 use Rattle.record.specs.Octets.{at}
-use Rattle.record.specs.EventRecord.{lengthAt, linkAt, numberAt, messageOf, codedAt, misfit, fitting, fieldsOf}
+use Rattle.record.specs.Frame.{lengthAt, linkAt, numberAt, messageOf}
+use Rattle.record.specs.EventRecord.{codedAt, misfit, fitting, fieldsOf}
 use borrow.Author.Needs.{needs}
 use Rattle.record.proofs.events.fields.Statement.{statement}
 use Rattle.record.proofs.events.fields.Tie as tie

@@ -1,12 +1,12 @@
 -- `events::framed` meets its contract. Assumes nothing.
 use borrow.Author.Tests.{le-leb, lt-leb}
-use Rattle.record.specs.EventRecord.{framed}
+use Rattle.record.specs.Frame.{framedAs}
 use borrow.Author.Needs.{needs}
 use Rattle.record.proofs.events.framed.Statement.{statement}
 use Rattle.record.proofs.events.framed.Tie as tie
 
 returns : tie.Need-returns
-unfolding framed
+unfolding framedAs
 returns c = simp (lt-leb _ _ (c .if1 .taken))
 
 shared-slice-read-wide : tie.Need-shared-slice-read-wide
@@ -31,7 +31,7 @@ add-result : tie.Need-add-result
 add-result c = search needs
 
 returns-2 : tie.Need-returns-2
-unfolding framed
+unfolding framedAs
 returns-2 c = rw (c .before .marked .ensures, c .before .before .before .wide .ensures) (simp (le-leb _ _ (c .before .before .before .before .before .before .if1 .left)))
 
 pub framed-spec : {M : Type 1} → statement M

@@ -6,13 +6,14 @@ use mathlib.Core.List.{List}
 use borrow.Author.Needs.{needs}
 use Rattle.record.specs.declared.events.Reading.{Reading}
 use Rattle.record.specs.EventRecord.{framed, fieldsOf, readingOf}
-use Rattle.record.proofs.EventRecord.{twelve}
+use Rattle.record.specs.Frame.{EV}
+use Rattle.record.proofs.Frame.{sound}
 use Rattle.record.proofs.events.read_event.Statement.{statement}
 use Rattle.record.proofs.events.read_event.Tie as tie
 
-sound : (e : List ℕ) {r : Reading} → framed e ≡ true → r ≡ fieldsOf e → r ≡ readingOf e
+taken : (e : List ℕ) {r : Reading} → framed e ≡ true → r ≡ fieldsOf e → r ≡ readingOf e
 unfolding readingOf
-sound e f g = rw f g
+taken e f g = rw f g
 
 broken : (e : List ℕ) → framed e ≡ false → Reading.BadFrame ≡ readingOf e
 unfolding readingOf
@@ -22,10 +23,10 @@ framed-requires : tie.Need-framed-requires
 framed-requires c κs = search needs
 
 fields-requires : tie.Need-fields-requires
-fields-requires c κs = twelve _ (sym (c .before .framed .ensures) ∙ c .if1 .taken)
+fields-requires c κs = sound EV _ (sym (c .before .framed .ensures) ∙ c .if1 .taken) .twelve
 
 returns : tie.Need-returns
-returns c = sound _ (sym (c .before .before .framed .ensures) ∙ c .before .if1 .taken) (c .fields .ensures)
+returns c = taken _ (sym (c .before .before .framed .ensures) ∙ c .before .if1 .taken) (c .fields .ensures)
 
 returns-2 : tie.Need-returns-2
 returns-2 c = broken _ (sym (c .before .framed .ensures) ∙ c .if1 .left)
