@@ -1,5 +1,6 @@
 pub mod Effect
 pub mod Signal
+pub mod Fresh
 pub mod Step
 pub mod Stored
 pub mod Twelve

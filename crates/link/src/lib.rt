@@ -17,6 +17,7 @@ ghost use Prim.Native.Nat.{_-_};
 ghost use Rattle.table6.specs.Summary.{over};
 ghost use Rattle.table6.specs.Stored.{flagOp, mpsOp, upsOp, stateOp, countOp, takesOp, changed};
 ghost use Rattle.link.specs.Effect.{with-state, taken};
+ghost use Rattle.link.specs.Fresh.{freshLink};
 ghost use Rattle.link.specs.Step.{named, stepOf};
 ghost use Rattle.link.specs.Stored.{dataRowOf, t3RowOf, viewOf, factsOf, counted, summedUp, heard};
 
@@ -46,6 +47,28 @@ pub struct Link {
     pub bsnt: Bsnt,
     pub c1: u16,
     pub n1: u16,
+}
+
+// A link before its first event.
+pub fn fresh(n1: u16) -> Link
+    ensures { λ r. ⌜ r ≡ freshLink n1 ⌝ }
+{
+    Link {
+        state: State::S111,
+        ins: false,
+        lpo: false,
+        mps: Mps::Neutral,
+        ups: Ups::Normal,
+        t1: false,
+        t2: false,
+        t3: false,
+        bsnt: Bsnt {
+            known: false,
+            num: ZERO,
+        },
+        c1: 0,
+        n1: n1,
+    }
 }
 
 // An event with what it carries. Its message stays where it is.

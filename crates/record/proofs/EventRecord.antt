@@ -17,46 +17,42 @@ use Rattle.link.specs.Signal.{num, none}
 use Rattle.record.specs.declared.events.Coded.{Coded}
 use Rattle.record.specs.declared.events.Reading.{Reading}
 use Rattle.record.specs.Octets.{at}
-use Rattle.record.specs.Frame.{EV, lengthAt, linkAt, numberAt, messageOf, written}
+use Rattle.record.specs.Frame.{EV, lengthAt, linkAt, numberAt, messageOf, codeAt, paramAt, written}
 use Rattle.record.specs.EventRecord.{framed, Code, codes, among, Each, codedAt, isStatus, hasMessage, hasNumber, hasParameter, misfit, fitting, fieldsOf, readingOf, Carried, carrying, carried, Rewritten, Reread}
 use Rattle.record.proofs.Frame.{frame-rewritten, frame-reread, two-back}
 
--- WHAT A TAKEN READING SAYS
+-- WHAT A READING TELLS of the tests in it: whether the frame is sound, what the code says, whether a field misfits, which link it is
+
+abbrev pub coded : Coded → Bool
+coded Coded.Unknown = false
+coded (Coded.Of e) = true
+
+abbrev pub Told : Reading → Bool → Coded → Bool → ℕ → Type 0
+Told Reading.BadFrame f x m k = f ≡ false
+Told Reading.UnknownCode f x m k = (f ≡ true) × (coded x ≡ false)
+Told Reading.Misfit f x m k = (f ≡ true) × (coded x ≡ true) × (m ≡ true)
+Told (Reading.Holds l e) f x m k = (f ≡ true) × (x ≡ Coded.Of e) × (m ≡ false) × (k ≡ l)
+
+tells : (f : Bool) (x : Coded) (m : Bool) (k : ℕ) → Told (cond f (fitting x m k) Reading.BadFrame) f x m k
+tells false x m k = refl
+tells true Coded.Unknown m k = (refl, refl)
+tells true (Coded.Of e) true k = (refl, refl, refl)
+tells true (Coded.Of e) false k = (refl, refl, refl, refl)
+
+abbrev pub ToldOf : List ℕ → Reading → Type 0
+ToldOf e r =
+    Told r (framed e) (codedAt (codeAt e) (paramAt e) (numberAt e) (lengthAt e) (arrived (messageOf e))) (misfit (codeAt e) (paramAt e) (numberAt e) (lengthAt e)) (linkAt e)
+
+pub reading-tells : (e : List ℕ) → ToldOf e (readingOf e)
+unfolding readingOf fieldsOf
+reading-tells e =
+    tells (framed e) (codedAt (codeAt e) (paramAt e) (numberAt e) (lengthAt e) (arrived (messageOf e))) (misfit (codeAt e) (paramAt e) (numberAt e) (lengthAt e)) (linkAt e)
+
+-- WHAT A CODE SAYS, of all codes at once
 
 abbrev eventIn : Event → Coded → Event
 eventIn d Coded.Unknown = d
 eventIn d (Coded.Of e) = e
-
-abbrev heldEvent : Event → Reading → Event
-heldEvent d (Reading.Holds l e) = e
-heldEvent d Reading.BadFrame = d
-heldEvent d Reading.UnknownCode = d
-heldEvent d Reading.Misfit = d
-
-abbrev heldLink : Reading → ℕ
-heldLink (Reading.Holds l e) = l
-heldLink Reading.BadFrame = 0
-heldLink Reading.UnknownCode = 0
-heldLink Reading.Misfit = 0
-
-abbrev held : Reading → Bool
-held (Reading.Holds l e) = true
-held Reading.BadFrame = false
-held Reading.UnknownCode = false
-held Reading.Misfit = false
-
-holds : (f : Bool) (x : Coded) (m : Bool) (k : ℕ) {l : ℕ} {e : Event} → cond f (fitting x m k) Reading.BadFrame ≡ Reading.Holds l e →
-    (f ≡ true) × (x ≡ Coded.Of e) × (m ≡ false) × (k ≡ l)
-holds false x m k h = absurd (true≢false (sym (ap held h)))
-holds true Coded.Unknown m k h = absurd (true≢false (sym (ap held h)))
-holds true (Coded.Of y) true k h = absurd (true≢false (sym (ap held h)))
-holds true (Coded.Of y) false k h = (refl, ap (λ (r : Reading). Coded.Of (heldEvent y r)) h, refl, ap heldLink h)
-
--- WHAT A CODE SAYS, of all codes at once
-
-abbrev coded : (x : Coded) → Bool
-coded Coded.Unknown = false
-coded (Coded.Of e) = true
 
 pick : (P : ℕ → Event → Type 0) (c : ℕ) (y : Code) (others : Coded) {x : Event} (t : Bool) → eqb c (y .code) ≡ t → P (y .code) (y .says) → (others ≡ Coded.Of x → P c x) →
     cond t (Coded.Of (y .says)) others ≡ Coded.Of x → P c x
@@ -128,14 +124,14 @@ whole c p n len h =
 -- WRITING WHAT WAS READ
 
 pub rewritten : Rewritten
-unfolding readingOf fieldsOf codedAt
+unfolding codedAt
 rewritten e l x o h =
     let c = at e 4 in
     let p = at e 5 in
     let n = numberAt e in
     let len = lengthAt e in
     let a = arrived (messageOf e) in
-    let r = holds (framed e) (among c (codes p n len a)) (misfit c p n len) (linkAt e) h in
+    let r = subst (ToldOf e) h (reading-tells e) in
     let k : carried x ≡ carrying c (cond (hasParameter c) p 0) (kept c n) = of-codes (Keeps p n) c (codes p n len a) (keeps p n len a) (r .1) in
     let w = whole c p n len (r .2) in
     let e4 = ap (λ (y : Carried). y .code) k in

@@ -18,9 +18,10 @@ use Rattle.table6.proofs.Lists.{alike}
 use Rattle.table6.proofs.Every.{left, right}
 use Rattle.link.specs.declared.Link.{Link}
 use Rattle.link.specs.Signal.{none}
+use Rattle.record.specs.declared.Slot.{Slot}
 use Rattle.record.specs.Octets.{Octets, at, two, bit}
 use Rattle.record.proofs.Octets.{bit-le}
-use Rattle.record.specs.LinkRecord.{stateCode, stateAt, mpsAt, upsAt, octetsOf, linkOf, wellFormed, Unpacked, GoodLink, PackedWell, Repacked}
+use Rattle.record.specs.LinkRecord.{stateCode, stateAt, mpsAt, upsAt, octetsOf, linkOf, wellFormed, slotOf, Unpacked, GoodLink, PackedWell, Repacked}
 
 state-back : (s : State) → stateAt (stateCode s) ≡ s
 state-back State.S111 = refl
@@ -242,3 +243,21 @@ repacked r o n w =
     (λ x. e0 x ∷ e1 x ∷ e2 x ∷ e3 x ∷ e4 x ∷ e5 x ∷ e6 x ∷ e7 x ∷ at r 8 ∷ at r 9 ∷ at r 10 ∷ e11 x ∷ e12 x ∷ e13 x ∷ e14 x ∷ e15 x ∷ [])
     ∙ ap (from (at r) 0) (sym n)
     ∙ sym (listed r)
+
+pub octets-length : (l : Link) → length (octetsOf l) ≡ 16
+unfolding octetsOf
+octets-length l = refl
+
+-- WHAT A SLOT TELLS of the octets in it
+
+abbrev pub SlotTold : List ℕ → Slot → Type 0
+SlotTold r Slot.IllFormed = eqb (length r) 16 && wellFormed r ≡ false
+SlotTold r (Slot.Holds l) = (wellFormed r ≡ true) × (linkOf r ≡ l)
+
+tells : (r : List ℕ) (b : Bool) → eqb (length r) 16 && wellFormed r ≡ b → SlotTold r (cond b (Slot.Holds (linkOf r)) Slot.IllFormed)
+tells r false e = e
+tells r true e = (right (eqb (length r) 16) (wellFormed r) e, refl)
+
+pub slot-tells : (r : List ℕ) → SlotTold r (slotOf r)
+unfolding slotOf
+slot-tells r = tells r (eqb (length r) 16 && wellFormed r) refl

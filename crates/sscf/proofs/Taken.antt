@@ -1,0 +1,64 @@
+-- What is known where no check refuses, and what the calls come to. Assumes nothing.
+use mathlib.Core.Path.{_≡_, refl, subst, _∙_}
+use mathlib.Core.Bool.{true}
+use mathlib.Core.List.{List}
+use Prim.Native.Nat.{ℕ, _*_, _≤_, _<_}
+use native.Mathlib.Omega.{arith}
+use lib.ListN.{length}
+use borrow.Author.Tests.{ltb-false, leb-false}
+use Rattle.link.specs.declared.Link.{Link}
+use Rattle.link.specs.declared.Signal.{Signal}
+use Rattle.link.specs.Step as machine
+use Rattle.link.specs.Kept.{Keeps, After}
+use Rattle.link.proofs.Kept.{kept}
+use Rattle.record.specs.Octets.{over, putAt}
+use Rattle.record.specs.LinkRecord.{linkOf, octetsOf}
+use Rattle.record.specs.Frame.{EV, linkAt, messageOf}
+use Rattle.record.specs.EventRecord.{framed}
+use Rattle.record.specs.SignalRecord.{joined}
+use Rattle.record.proofs.Frame.{sound, message-length}
+use Rattle.record.proofs.SignalRecord.{joined-small}
+use Rattle.sscf.specs.declared.checks.Refusal.{Refusal}
+use Rattle.sscf.specs.Checks.{passed, refused, first}
+use Rattle.sscf.specs.Step.{records, recordAt, eventOf, checks, answered, answering, refusedBy, stepCall}
+use Rattle.sscf.proofs.Places.{unnot, clear}
+
+pub record Taken (t e : List ℕ) (room : ℕ) : Type 0 where
+  pub sound : framed e ≡ true
+  pub inside : linkAt e < records t
+  pub wide : 4192 ≤ room
+
+pub taken : (t e : List ℕ) (room : ℕ) → first (checks t e room) ≡ passed → Taken t e room
+taken t e room h =
+    let c = clear (checks t e room) h in
+    record {
+      sound = unnot (framed e) (c .1 .0);
+      inside = leb-false (records t) (linkAt e) (c .1 .1 .1 .1 .0);
+      wide = ltb-false room 4192 (c .1 .1 .1 .1 .1 .1 .1 .1 .0);
+    }
+
+pub message-small : (e : List ℕ) → framed e ≡ true → length (messageOf e) ≤ 4096
+message-small e f = omega (arith, message-length EV e f, sound EV e f .few)
+
+-- what the event named by e makes of its link
+abbrev pub Makes : List ℕ → List ℕ → Link → List Signal → Type 0
+Makes t e next signals = machine.stepOf (linkOf (recordAt t (linkAt e))) (eventOf e) ≡ machine.Legal next signals
+
+pub made-after : (t e : List ℕ) {next : Link} {signals : List Signal} → Makes t e next signals → After (linkOf (recordAt t (linkAt e))) next signals
+made-after t e h = subst (Keeps (linkOf (recordAt t (linkAt e)))) h (kept (linkOf (recordAt t (linkAt e))) (eventOf e))
+
+-- all signals have room
+pub room-for : (t e : List ℕ) {next : Link} {signals : List Signal} → framed e ≡ true → Makes t e next signals → length (joined (linkAt e) (messageOf e) signals) ≤ 4192
+room-for t e {next} {signals} f h =
+    let a = made-after t e h in
+    joined-small (linkAt e) (messageOf e) signals (a .five) (a .one-message) (message-small e f)
+
+pub step-refused : (t e o : List ℕ) (r : Refusal) → first (checks t e (length o)) ≡ refused r → stepCall t e o ≡ refusedBy r t o
+unfolding stepCall
+step-refused t e o r h = rw h
+
+pub step-accepted : (t e o : List ℕ) {next : Link} {signals : List Signal} → first (checks t e (length o)) ≡ passed → Makes t e next signals →
+    stepCall t e o
+    ≡ answering (answered 0 (length (joined (linkAt e) (messageOf e) signals)) (length signals)) (putAt t (16 * linkAt e) (octetsOf next)) (over (joined (linkAt e) (messageOf e) signals) o)
+unfolding stepCall
+step-accepted t e o p h = rw (p, h)

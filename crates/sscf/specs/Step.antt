@@ -1,0 +1,108 @@
+-- The step, from table, event and output to answer, table and output, on all octets: document 01's checks in its order, then Table 6.
+use Prim.Native.Nat.{ℕ, _+_, _*_, _/_, _%_}
+use mathlib.Core.Bool.{Bool, true, false, cond, not, _&&_, _||_}
+use mathlib.Core.List.{List, [], _∷_}
+use lib.Dec.{eqb, leb, ltb}
+use lib.ListN.{length, take, drop}
+use Rattle.unit.specs.Unit.{arrived}
+use Rattle.link.specs.declared.Link.{Link}
+use Rattle.link.specs.declared.Event.{Event}
+use Rattle.link.specs.declared.Event.the-variants as event
+use Rattle.link.specs.Step as machine
+use Rattle.record.specs.declared.events.Coded.{Coded}
+use Rattle.record.specs.Octets.{over, putAt}
+use Rattle.record.specs.LinkRecord.{wellFormed, linkOf, octetsOf}
+use Rattle.record.specs.Frame.{linkAt, codeAt, paramAt, numberAt, lengthAt, messageOf}
+use Rattle.record.specs.EventRecord.{framed, codedAt, misfit}
+use Rattle.record.specs.SignalRecord.{joined}
+use Rattle.sscf.specs.declared.Answer.{Answer}
+use Rattle.sscf.specs.declared.checks.Refusal.{Refusal}
+use Rattle.sscf.specs.Checks.{number, Check, _if_, Verdict, passed, refused, first}
+
+-- THE TABLE
+
+-- "Table empty, not a multiple of 16, or over 4,096 octets."
+abbrev pub badTable : List ℕ → Bool
+badTable t = eqb (length t) 0 || not (eqb (length t % 16) 0) || ltb 4096 (length t)
+
+abbrev pub records : List ℕ → ℕ
+records t = length t / 16
+
+-- the record of link k
+abbrev pub recordAt : List ℕ → ℕ → List ℕ
+recordAt t k = take 16 (drop (16 * k) t)
+
+-- THE EVENT
+
+abbrev pub codedIn : List ℕ → Coded
+codedIn e = codedAt (codeAt e) (paramAt e) (numberAt e) (lengthAt e) (arrived (messageOf e))
+
+abbrev pub unknown : Coded → Bool
+unknown Coded.Unknown = true
+unknown (Coded.Of x) = false
+
+-- what the code says; where it says nothing, check 3 has refused
+abbrev pub said : Coded → Event
+said Coded.Unknown = event.Continue
+said (Coded.Of x) = x
+
+abbrev pub eventOf : List ℕ → Event
+eventOf e = said (codedIn e)
+
+-- "Expiry of a timer not marked running."
+abbrev pub idle : Link → ℕ → Bool
+idle l code = (eqb code 48 && not (l .t1)) || (eqb code 49 && not (l .t2)) || (eqb code 50 && not (l .t3))
+
+-- THE CHECKS
+
+abbrev pub isIllegal : machine.Outcome → Bool
+isIllegal machine.Illegal = true
+isIllegal (machine.Legal next signals) = false
+
+-- of link k, for an event with this code and this room for signals
+abbrev pub linkChecks : List ℕ → ℕ → ℕ → Event → ℕ → List Check
+linkChecks t k code x room =
+    (Refusal.Link if leb (records t) k)
+    ∷ (Refusal.Record if not (wellFormed (recordAt t k)))
+    ∷ (Refusal.Timer if idle (linkOf (recordAt t k)) code)
+    ∷ (Refusal.Cell if isIllegal (machine.stepOf (linkOf (recordAt t k)) x))
+    ∷ (Refusal.Room if ltb room 4192)
+    ∷ []
+
+abbrev pub checks : List ℕ → List ℕ → ℕ → List Check
+checks t e room =
+    (Refusal.Table if badTable t)
+    ∷ (Refusal.Frame if not (framed e))
+    ∷ (Refusal.Code if unknown (codedIn e))
+    ∷ (Refusal.Field if misfit (codeAt e) (paramAt e) (numberAt e) (lengthAt e))
+    ∷ linkChecks t (linkAt e) (codeAt e) (eventOf e) room
+
+-- THE CALL
+
+pub record Outcome : Type 0 where
+  pub answer : Answer
+  pub table : List ℕ
+  pub output : List ℕ
+
+abbrev pub answering : Answer → List ℕ → List ℕ → Outcome
+answering a t o = record { answer = a; table = t; output = o }
+
+abbrev pub answered : ℕ → ℕ → ℕ → Answer
+answered refusal octets signals = record { refusal = refusal; octets = octets; signals = signals }
+
+-- A refusal changes nothing.
+abbrev pub refusedBy : Refusal → List ℕ → List ℕ → Outcome
+refusedBy r t o = answering (answered (number r) 0 0) t o
+
+-- What Table 6 gives, for link k and an event with the message m: its record is written into the table, its signals over the front of the output.
+abbrev pub performed : machine.Outcome → List ℕ → ℕ → List ℕ → List ℕ → Outcome
+performed machine.Illegal t k m o = refusedBy Refusal.Cell t o
+performed (machine.Legal next signals) t k m o =
+    answering (answered 0 (length (joined k m signals)) (length signals)) (putAt t (16 * k) (octetsOf next)) (over (joined k m signals) o)
+
+abbrev pub outcome : Verdict → List ℕ → List ℕ → List ℕ → Outcome
+outcome (refused r) t e o = refusedBy r t o
+outcome passed t e o = performed (machine.stepOf (linkOf (recordAt t (linkAt e))) (eventOf e)) t (linkAt e) (messageOf e) o
+
+unfoldable pub stepCall : List ℕ → List ℕ → List ℕ → Outcome
+stepCall t e o = outcome (first (checks t e (length o))) t e o

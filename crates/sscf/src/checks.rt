@@ -1,0 +1,131 @@
+// Document 01's checks, in its order: the first that holds refuses the call.
+
+use link::Answer;
+use link::Event;
+use link::Link;
+use link::Said;
+use record::Slot;
+use record::events;
+use record::events::Reading;
+ghost use mathlib.Core.Path.{_≡_};
+ghost use Prim.Native.Nat.{_+_, _*_, _<_};
+ghost use lib.ListN.{length};
+ghost use Rattle.link.specs.Step.{stepOf};
+ghost use Rattle.record.specs.LinkRecord.{slotOf, linkOf};
+ghost use Rattle.record.specs.Frame.{linkAt};
+ghost use Rattle.sscf.specs.Checks.{number};
+ghost use Rattle.sscf.specs.Step.{badTable, records, recordAt, eventOf, idle, linkChecks, checks};
+ghost use Rattle.sscf.specs.Plan.{Planned};
+
+pub enum Refusal {
+    Table,
+    Frame,
+    Code,
+    Field,
+    Link,
+    Record,
+    Timer,
+    Cell,
+    Room,
+}
+
+impl Refusal {
+    pub fn number(self) -> u32
+        ensures { λ r. ⌜ r ≡ number self ⌝ }
+    {
+        match self {
+            Refusal::Table => 1,
+            Refusal::Frame => 2,
+            Refusal::Code => 3,
+            Refusal::Field => 4,
+            Refusal::Link => 5,
+            Refusal::Record => 6,
+            Refusal::Timer => 7,
+            Refusal::Cell => 8,
+            Refusal::Room => 9,
+        }
+    }
+}
+
+// The octets of a link's record, of the longest table, and the least of an output.
+pub const RECORD: usize = 16;
+
+pub const TABLE: usize = 4096;
+
+pub const ROOM: usize = 4192;
+
+// Check 1.
+pub fn bad_table(t: &[u8]) -> bool
+    ensures { λ r. ⌜ r ≡ badTable (now (t .entry)) ⌝ }
+{
+    let size = t.len();
+    (size == 0) | (size % RECORD != 0) | (TABLE < size)
+}
+
+// The record of link k.
+fn slot_at(t: &[u8], k: usize) -> Slot
+    requires { ⌜ k < records (now t) ⌝ }
+    ensures { λ r. ⌜ r ≡ slotOf (recordAt (now (t .entry)) k) ⌝ }
+{
+    let start = RECORD * k;
+    let end = start + RECORD;
+    record::read_link(&t[start..end])
+}
+
+// Check 7: the expiry of a timer that is not marked running.
+fn idle(l: Link, code: u8) -> bool
+    ensures { λ r. ⌜ r ≡ idle l code ⌝ }
+{
+    ((code == 48) & !l.t1) | ((code == 49) & !l.t2) | ((code == 50) & !l.t3)
+}
+
+// What the checks come to: a refusal, or the link, its record after the event and what is said.
+pub enum Plan {
+    Refused(Refusal),
+    Go { link: u16, next: Link, said: Said },
+}
+
+// Checks 5 to 9, of link k.
+fn link_plan(t: &[u8], k: u16, code: u8, e: Event, room: usize) -> Plan
+    ensures { λ r. ⌜ Planned (linkChecks (now (t .entry)) k code e room) k (stepOf (linkOf (recordAt (now (t .entry)) k)) e) r ⌝ }
+{
+    if t.len() / RECORD <= k as usize {
+        return Plan::Refused(Refusal::Link);
+    }
+    match slot_at(t, k as usize) {
+        Slot::IllFormed => Plan::Refused(Refusal::Record),
+        Slot::Holds(l) => {
+            if idle(l, code) {
+                return Plan::Refused(Refusal::Timer);
+            }
+            match link::step(l, e) {
+                Answer::Illegal => Plan::Refused(Refusal::Cell),
+                Answer::Legal(next, said) => {
+                    if room < ROOM {
+                        return Plan::Refused(Refusal::Room);
+                    }
+                    Plan::Go {
+                        link: k,
+                        next: next,
+                        said: said,
+                    }
+                }
+            }
+        }
+    }
+}
+
+// All nine.
+pub fn planned(t: &[u8], e: &[u8], room: usize) -> Plan
+    ensures { λ r. ⌜ Planned (checks (now (t .entry)) (now (e .entry)) room) (linkAt (now (e .entry))) (stepOf (linkOf (recordAt (now (t .entry)) (linkAt (now (e .entry))))) (eventOf (now (e .entry)))) r ⌝ }
+{
+    if bad_table(t) {
+        return Plan::Refused(Refusal::Table);
+    }
+    match events::read_event(e) {
+        Reading::BadFrame => Plan::Refused(Refusal::Frame),
+        Reading::UnknownCode => Plan::Refused(Refusal::Code),
+        Reading::Misfit => Plan::Refused(Refusal::Field),
+        Reading::Holds { link, event } => link_plan(t, link, e[4], event, room),
+    }
+}
