@@ -1,6 +1,6 @@
 -- The link record's round trips. Assumes nothing.
 use mathlib.Core.Path.{_≡_, refl, sym, ap, _∙_}
-use mathlib.Core.Bool.{Bool, true, false, cond, _&&_, _||_}
+use mathlib.Core.Bool.{Bool, true, false, cond, _&&_, _||_, true≢false}
 use mathlib.Core.List.{List, [], _∷_}
 use Prim.Native.Nat.{ℕ, zero, suc, _+_, _*_, _/_, _%_, _<_, _≤_}
 use native.Mathlib.Omega.{arith}
@@ -21,7 +21,7 @@ use Rattle.link.specs.Signal.{none}
 use Rattle.record.specs.declared.Slot.{Slot}
 use Rattle.record.specs.Octets.{Octets, at, two, bit}
 use Rattle.record.proofs.Octets.{bit-le}
-use Rattle.record.specs.LinkRecord.{stateCode, stateAt, mpsAt, upsAt, octetsOf, linkOf, wellFormed, slotOf, Unpacked, GoodLink, PackedWell, Repacked}
+use Rattle.record.specs.LinkRecord.{stateCode, stateAt, mpsAt, upsAt, octetsOf, linkOf, wellFormed, slotOf, Unpacked, GoodLink, PackedWell, UnpackedGood, Repacked}
 
 state-back : (s : State) → stateAt (stateCode s) ≡ s
 state-back State.S111 = refl
@@ -216,17 +216,51 @@ parts a b c d e f g h i j k m w =
       right (a && b && c && d && e && f && g && h && i && j && k) m w,
     )
 
+formed : (r : List ℕ) → wellFormed r ≡ true →
+    (eqb (at r 0) 76 ≡ true)
+    × (eqb (at r 1) 75 ≡ true)
+    × (leb 1 (at r 2) ≡ true)
+    × (leb (at r 2) 8 ≡ true)
+    × (leb (at r 3) 3 ≡ true)
+    × (leb (at r 4) 2 ≡ true)
+    × (leb (at r 5) 1 ≡ true)
+    × (leb (at r 6) 7 ≡ true)
+    × (leb (at r 7) 1 ≡ true)
+    × (eqb (at r 7) 1 || eqb (at r 8) 0 && eqb (at r 9) 0 && eqb (at r 10) 0 ≡ true)
+    × (eqb (at r 11) 0 ≡ true)
+    × (leb 1 (two (at r 14) (at r 15)) ≡ true)
+unfolding wellFormed
+formed r w =
+    parts (eqb (at r 0) 76) (eqb (at r 1) 75) (leb 1 (at r 2)) (leb (at r 2) 8) (leb (at r 3) 3) (leb (at r 4) 2) (leb (at r 5) 1) (leb (at r 6) 7) (leb (at r 7) 1)
+    (eqb (at r 7) 1 || eqb (at r 8) 0 && eqb (at r 9) 0 && eqb (at r 10) 0) (eqb (at r 11) 0) (leb 1 (two (at r 14) (at r 15))) w
+
+-- what a well-formed record holds is good
+no-number : (k a b c : Bool) → k || a && b && c ≡ true → k ≡ false → (a ≡ true) × (b ≡ true) × (c ≡ true)
+no-number true a b c h e = absurd (true≢false e)
+no-number false a b c h e = (left a b (left (a && b) c h), right a b (left (a && b) c h), right (a && b) c h)
+
+pub unpacked-good : UnpackedGood
+unfolding linkOf
+unpacked-good r w =
+    let f = formed r w in (
+      leb-true 1 (two (at r 14) (at r 15)) (f .11),
+      λ e.
+          let n = no-number (eqb (at r 7) 1) (eqb (at r 8) 0) (eqb (at r 9) 0) (eqb (at r 10) 0) (f .9) e in
+          let a = eqb-true (at r 8) 0 (n .0) in
+          let b = eqb-true (at r 9) 0 (n .1) in
+          let c = eqb-true (at r 10) 0 (n .2) in
+          λ i. record { a = a i; b = b i; c = c i },
+    )
+
 pub octet-at : (r : List ℕ) → Octets r → (i : ℕ) → at r i < 256
 octet-at [] o i = omega arith
 octet-at (x ∷ r) o zero = o .0
 octet-at (x ∷ r) o (suc i) = octet-at r (o .1) i
 
 pub repacked : Repacked
-unfolding octetsOf linkOf wellFormed
+unfolding octetsOf linkOf
 repacked r o n w =
-    let p =
-    parts (eqb (at r 0) 76) (eqb (at r 1) 75) (leb 1 (at r 2)) (leb (at r 2) 8) (leb (at r 3) 3) (leb (at r 4) 2) (leb (at r 5) 1) (leb (at r 6) 7) (leb (at r 7) 1)
-    (eqb (at r 7) 1 || eqb (at r 8) 0 && eqb (at r 9) 0 && eqb (at r 10) 0) (eqb (at r 11) 0) (leb 1 (two (at r 14) (at r 15))) w in
+    let p = formed r w in
     let e0 = sym (eqb-true (at r 0) 76 (p .0)) in
     let e1 = sym (eqb-true (at r 1) 75 (p .1)) in
     let e2 = state-same (at r 2) (leb-true 1 (at r 2) (p .2)) (leb-true (at r 2) 8 (p .3)) in

@@ -4,8 +4,8 @@ use mathlib.Core.List.{List, [], _∷_, _++_, append-assoc, append-nil}
 use Prim.Native.Nat.{ℕ, suc, _+_, _-_, _≤_, _<_}
 use native.Mathlib.Numerals.{add-one}
 use native.Mathlib.Omega.{arith}
-use lib.ListN.{length, take, drop, getD, set, length-append, length-drop, drop-of-length-le, take-append-drop}
-use lib.Seq.{length-take-le, take-all, take-suc, drop-cons, append-snoc, set-at, take-length, take-append-seam, drop-append-seam, drop-drop}
+use lib.ListN.{length, take, drop, getD, set, length-append, length-take, length-drop, drop-of-length-le, take-append-drop}
+use lib.Seq.{length-take-le, take-all, take-suc, drop-cons, append-snoc, set-at, take-length, take-append-seam, drop-append-seam, take-append-le, drop-append-le, drop-at, drop-drop}
 use Rattle.record.specs.Octets.{over, putAt}
 
 -- a turn of the loop that copies, and its end
@@ -43,3 +43,51 @@ behind a b d = simp (take-append-seam, drop-append-seam, drop-drop, length-appen
 pub put-nothing : (d : List ℕ) (a : ℕ) → putAt d a [] ≡ d
 unfolding over putAt
 put-nothing d a = take-append-drop a d
+
+-- WHAT IS WHERE AFTERWARDS. What was written stands at its place, and past its end everything is as it was.
+pub over-front : (s d : List ℕ) → take (length s) (over s d) ≡ s
+unfolding over
+over-front s d = take-append-seam s (drop (length s) d)
+
+pub over-rest : (s d : List ℕ) → drop (length s) (over s d) ≡ drop (length s) d
+unfolding over
+over-rest s d = drop-append-seam s (drop (length s) d)
+
+pub length-put : (d s : List ℕ) (a : ℕ) → a + length s ≤ length d → length (putAt d a s) ≡ length d
+unfolding over putAt
+length-put d s a h = simp (length-append, length-drop, length-take) (omega arith)
+
+-- past the place that was written to
+past : (d s : List ℕ) (a : ℕ) → a ≤ length d → drop a (putAt d a s) ≡ over s (drop a d)
+unfolding putAt
+past d s a h = drop-at (take a d) (over s (drop a d)) a (length-take-le a d h)
+
+pub put-there : (d s : List ℕ) (a : ℕ) → a ≤ length d → take (length s) (drop a (putAt d a s)) ≡ s
+put-there d s a h = ap (take (length s)) (past d s a h) ∙ over-front s (drop a d)
+
+-- a part before it
+front : (y x z : List ℕ) (i n : ℕ) → i + n ≤ length y → take n (drop i (y ++ x)) ≡ take n (drop i (y ++ z))
+front y x z i n h =
+    let k : n ≤ length (drop i y) = simp length-drop (omega arith) in
+    ap (take n) (drop-append-le i y x (omega arith))
+    ∙ take-append-le n (drop i y) x k
+    ∙ sym (ap (take n) (drop-append-le i y z (omega arith)) ∙ take-append-le n (drop i y) z k)
+
+pub put-before : (d s : List ℕ) (a i n : ℕ) → a ≤ length d → i + n ≤ a → take n (drop i (putAt d a s)) ≡ take n (drop i d)
+unfolding putAt
+put-before d s a i n h g =
+    front (take a d) (over s (drop a d)) (drop a d) i n (omega (arith, length-take-le a d h)) ∙ ap (λ (l : List ℕ). take n (drop i l)) (take-append-drop a d)
+
+-- and behind it
+pub put-after : (d s : List ℕ) (a i : ℕ) → a ≤ length d → a + length s ≤ i → drop i (putAt d a s) ≡ drop i d
+put-after d s a i h g =
+    let j = i - (a + length s) in
+    let e : i ≡ a + (length s + j) = omega arith in
+    ap (λ (k : ℕ). drop k (putAt d a s)) e
+    ∙ sym (drop-drop (length s + j) a (putAt d a s))
+    ∙ ap (drop (length s + j)) (past d s a h)
+    ∙ sym (drop-drop j (length s) (over s (drop a d)))
+    ∙ ap (drop j) (over-rest s (drop a d))
+    ∙ drop-drop j (length s) (drop a d)
+    ∙ drop-drop (length s + j) a d
+    ∙ ap (λ (k : ℕ). drop k d) (sym e)

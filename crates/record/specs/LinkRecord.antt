@@ -104,6 +104,10 @@ GoodLink l = (1 ≤ l .n1) × NoneIsZero (l .bsnt)
 abbrev pub PackedWell : Type 0
 PackedWell = (l : Link) → GoodLink l → wellFormed (octetsOf l) ≡ true
 
+-- And such is what a well-formed record holds.
+abbrev pub UnpackedGood : Type 0
+UnpackedGood = (r : List ℕ) → wellFormed r ≡ true → GoodLink (linkOf r)
+
 -- Packing what was unpacked gives the same sixteen octets.
 abbrev pub Repacked : Type 0
 Repacked = (r : List ℕ) → Octets r → length r ≡ 16 → wellFormed r ≡ true → octetsOf (linkOf r) ≡ r

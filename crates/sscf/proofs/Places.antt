@@ -51,3 +51,7 @@ by-test false r v h = (refl, h)
 pub clear : (cs : List Check) → first cs ≡ passed → Clear cs
 clear [] h = tt
 clear (c ∷ cs) h = let p = by-test (c .holds) (c .refusal) (first cs) h in (p .0, clear cs (p .1))
+
+pub none : (cs : List Check) → Clear cs → first cs ≡ passed
+none [] h = refl
+none (c ∷ cs) h = rw (h .0) (none cs (h .1))

@@ -21,7 +21,6 @@ pub record Check : Type 0 where
   pub holds : Bool
 
 infixl 20 _if_
-
 abbrev pub _if_ : Refusal → Bool → Check
 r if b = record { refusal = r; holds = b }
 

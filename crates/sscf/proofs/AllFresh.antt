@@ -1,0 +1,59 @@
+-- What holds of the fresh-table maker on all octets. Assumes nothing.
+use mathlib.Core.Path.{_≡_, refl, sym, ap, _∙_}
+use mathlib.Core.Bool.{Bool, true, false}
+use mathlib.Core.List.{List, [], _∷_, _++_}
+use Prim.Native.Nat.{ℕ, zero, suc, _+_, _*_, _≤_, _<_}
+use native.Mathlib.Omega.{arith}
+use lib.Dec.{eqb}
+use lib.ListN.{length, take, drop}
+use lib.Seq.{take-at, drop-at, drop-drop}
+use borrow.Author.Tests.{eqb-false}
+use Rattle.link.specs.Fresh.{freshLink}
+use Rattle.record.specs.LinkRecord.{wellFormed, octetsOf}
+use Rattle.record.proofs.LinkRecord.{octets-length, packed-well}
+use Rattle.sscf.specs.declared.checks.Refusal.{Refusal}
+use Rattle.sscf.specs.Checks.{Verdict, passed, refused, first}
+use Rattle.sscf.specs.Step.{records, recordAt}
+use Rattle.sscf.specs.Fresh.{freshChecks, Made, making, copies, made, freshCall}
+use Rattle.sscf.specs.Untouched.{FreshRefusalsUntouched, AllFresh, FreshWellFormed}
+use Rattle.sscf.proofs.Places.{clear}
+use Rattle.sscf.proofs.Untouched.{number-above}
+
+-- a table is refused, or it is made
+module _ (t : List ℕ) (n1 : ℕ) (P : Made → Type 0) (r : (x : Refusal) → P (made (refused x) t n1)) (a : first (freshChecks t n1) ≡ passed → P (made passed t n1)) where
+  by-verdict : (v : Verdict) → first (freshChecks t n1) ≡ v → P (made v t n1)
+  by-verdict (refused x) h = r x
+  by-verdict passed h = a h
+
+  either-way : P (freshCall t n1)
+  unfolding freshCall
+  either-way = by-verdict (first (freshChecks t n1)) refl
+
+pub fresh-refusals-untouched : FreshRefusalsUntouched
+fresh-refusals-untouched t n1 = either-way t n1 (λ z. 1 ≤ z .answer → z .table ≡ t) (λ x h. refl) (λ p h. absurd (omega arith))
+
+-- record k of copies
+copy-at : (r : List ℕ) → length r ≡ 16 → (n k : ℕ) → k < n → recordAt (copies n r) k ≡ r
+copy-at r e zero k h = absurd (omega arith)
+copy-at r e (suc n) zero h = take-at r (copies n r) 16 e
+copy-at r e (suc n) (suc k) h =
+    let p : 16 * suc k ≡ 16 + 16 * k = omega arith in
+    ap (λ (i : ℕ). take 16 (drop i (r ++ copies n r))) p
+    ∙ ap (take 16) (sym (drop-drop (16 * k) 16 (r ++ copies n r)) ∙ ap (drop (16 * k)) (drop-at r (copies n r) 16 e))
+    ∙ copy-at r e n k (omega arith)
+
+pub all-fresh : AllFresh
+all-fresh t n1 k =
+    either-way t n1 (λ z. z .answer ≡ 0 → k < records t → recordAt (z .table) k ≡ octetsOf (freshLink n1)) (λ x h. absurd (omega (arith, number-above x)))
+    (λ p h. copy-at (octetsOf (freshLink n1)) (octets-length (freshLink n1)) (records t) k)
+
+above : (n1 : ℕ) → eqb n1 0 ≡ false → 1 ≤ n1
+above zero h = absurd (eqb-false 0 0 h refl)
+above (suc n) h = omega arith
+
+pub fresh-well-formed : FreshWellFormed
+fresh-well-formed t n1 k h l =
+    ap wellFormed (all-fresh t n1 k h l)
+    ∙ either-way t n1 (λ z. z .answer ≡ 0 → wellFormed (octetsOf (freshLink n1)) ≡ true) (λ x h. absurd (omega (arith, number-above x)))
+    (λ p h. packed-well (freshLink n1) (above n1 (clear (freshChecks t n1) p .1 .0), λ e. refl))
+    h

@@ -1,0 +1,68 @@
+-- What holds of the two calls on all octets, said plainly: what each leaves alone, and what it has written. All of it follows from Step.antt and Fresh.antt.
+use Prim.Native.Nat.{ℕ, _≤_, _<_}
+use mathlib.Core.Path.{_≡_}
+use mathlib.Core.Bool.{true}
+use mathlib.Core.List.{List}
+use lib.ListN.{length, take, drop}
+use Rattle.link.specs.declared.Link.{Link}
+use Rattle.link.specs.declared.Signal.{Signal}
+use Rattle.link.specs.Fresh.{freshLink}
+use Rattle.link.specs.Step as machine
+use Rattle.record.specs.LinkRecord.{wellFormed, linkOf, octetsOf}
+use Rattle.record.specs.Frame.{linkAt, messageOf}
+use Rattle.record.specs.SignalRecord.{joined}
+use Rattle.sscf.specs.Step.{records, recordAt, eventOf, answered, answering, Outcome, stepCall}
+use Rattle.sscf.specs.Fresh.{freshCall}
+
+-- THE STEP. A refusal answers no octets and no signals, and changes nothing.
+abbrev pub RefusalsUntouched : Type 0
+RefusalsUntouched = (t e o : List ℕ) → 1 ≤ stepCall t e o .answer .refusal → stepCall t e o ≡ answering (answered (stepCall t e o .answer .refusal) 0 0) t o
+
+-- Every octet of every record but the named one is as it was.
+abbrev pub OthersUntouched : Type 0
+OthersUntouched = (t e o : List ℕ) (k : ℕ) → (k ≡ linkAt e → ⊥) → recordAt (stepCall t e o .table) k ≡ recordAt t k
+
+-- Past the octets that are answered the output is as it was, and these are at most 4,192.
+abbrev pub RestUntouched : Type 0
+RestUntouched = (t e o : List ℕ) → drop (stepCall t e o .answer .octets) (stepCall t e o .output) ≡ drop (stepCall t e o .answer .octets) o
+
+abbrev pub AtMost4192 : Type 0
+AtMost4192 = (t e o : List ℕ) → stepCall t e o .answer .octets ≤ 4192
+
+-- Table and output keep their lengths.
+abbrev pub SameLengths : Type 0
+SameLengths = (t e o : List ℕ) → (length (stepCall t e o .table) ≡ length t) × (length (stepCall t e o .output) ≡ length o)
+
+-- An output of 4,191 octets is refused. One of 4,192 is as good as any that is taken.
+abbrev pub Refused4191 : Type 0
+Refused4191 = (t e o : List ℕ) → length o ≡ 4191 → 1 ≤ stepCall t e o .answer .refusal
+
+abbrev pub Taken4192 : Type 0
+Taken4192 = (t e o p : List ℕ) → stepCall t e o .answer .refusal ≡ 0 → length p ≡ 4192 → stepCall t e p .answer ≡ stepCall t e o .answer
+
+-- Acceptance: what Table 6 gives is what was written. As many records as are answered stand in as many octets as are answered, and the named record is the
+-- link's next.
+pub record Written (t e : List ℕ) (after : Outcome) : Type 0 where
+  pub next : Link
+  pub signals : List Signal
+  pub gives : machine.stepOf (linkOf (recordAt t (linkAt e))) (eventOf e) ≡ machine.Legal next signals
+  pub counted : after .answer .signals ≡ length signals
+  pub octets : take (after .answer .octets) (after .output) ≡ joined (linkAt e) (messageOf e) signals
+  pub packed : recordAt (after .table) (linkAt e) ≡ octetsOf next
+
+abbrev pub AcceptedWritten : Type 0
+AcceptedWritten = (t e o : List ℕ) → stepCall t e o .answer .refusal ≡ 0 → Written t e (stepCall t e o)
+
+-- A well-formed record stays well-formed.
+abbrev pub StaysWellFormed : Type 0
+StaysWellFormed = (t e o : List ℕ) (k : ℕ) → wellFormed (recordAt t k) ≡ true → wellFormed (recordAt (stepCall t e o .table) k) ≡ true
+
+-- THE FRESH-TABLE MAKER. A refusal changes nothing; else every record is that of a fresh link, and well-formed.
+abbrev pub FreshRefusalsUntouched : Type 0
+FreshRefusalsUntouched = (t : List ℕ) (n1 : ℕ) → 1 ≤ freshCall t n1 .answer → freshCall t n1 .table ≡ t
+
+abbrev pub AllFresh : Type 0
+AllFresh = (t : List ℕ) (n1 k : ℕ) → freshCall t n1 .answer ≡ 0 → k < records t → recordAt (freshCall t n1 .table) k ≡ octetsOf (freshLink n1)
+
+abbrev pub FreshWellFormed : Type 0
+FreshWellFormed = (t : List ℕ) (n1 k : ℕ) → freshCall t n1 .answer ≡ 0 → k < records t → wellFormed (recordAt (freshCall t n1 .table) k) ≡ true
