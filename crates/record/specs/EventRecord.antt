@@ -15,7 +15,7 @@ use Rattle.record.specs.declared.events.Coded.{Coded}
 use Rattle.record.specs.declared.events.Reading.{Reading}
 use Rattle.link.specs.Signal.{num, none}
 use Rattle.record.specs.Octets.{Octets}
-use Rattle.record.specs.Frame.{EV, framedAs, written, linkAt, codeAt, paramAt, numberAt, lengthAt, messageOf}
+use Rattle.record.specs.Frame.{messageOctets, EV, framedAs, written, linkAt, codeAt, paramAt, numberAt, lengthAt, messageOf}
 
 abbrev pub framed : List ℕ → Bool
 framed e = framedAs EV e
@@ -124,7 +124,7 @@ Each P (x ∷ others) = P x × Each P others
 -- Reading what was written: each code, with whatever fits it, is read as the list says.
 abbrev pub Reread : Type 0
 Reread =
-    (link p : ℕ) (n : Num) (m : List ℕ) → length m ≤ 4096 →
+    (link p : ℕ) (n : Num) (m : List ℕ) → length m ≤ messageOctets →
     Each (λ x. misfit (x .code) p n (length m) ≡ false → readingOf (written EV link (x .code) p n m) ≡ Reading.Holds link (x .says)) (codes p n (length m) (arrived m))
 
 -- What an event carries.

@@ -7,6 +7,13 @@ use lib.ListN.{length, drop}
 use Rattle.link.specs.declared.Num.{Num}
 use Rattle.record.specs.Octets.{at, two}
 
+abbrev pub headOctets : ℕ
+headOctets = 12
+
+-- at most
+abbrev pub messageOctets : ℕ
+messageOctets = 4096
+
 -- The marks.
 abbrev pub EV : List ℕ
 EV = 69 ∷ 86 ∷ []
@@ -51,14 +58,14 @@ abbrev pub lengthAt : List ℕ → ℕ
 lengthAt r = two (at r 10) (at r 11)
 
 abbrev pub messageOf : List ℕ → List ℕ
-messageOf r = drop 12 r
+messageOf r = drop headOctets r
 
 -- At least twelve octets, the mark, octet 9 zero, and a length of at most 4,096 that is the length of what follows.
 unfoldable pub framedAs : List ℕ → List ℕ → Bool
 framedAs mark r =
-    leb 12 (length r)
+    leb headOctets (length r)
     && (eqb (at r 0) (at mark 0)
     && eqb (at r 1) (at mark 1)
     && eqb (at r 9) 0
-    && leb (lengthAt r) 4096
-    && eqb (12 + lengthAt r) (length r))
+    && leb (lengthAt r) messageOctets
+    && eqb (headOctets + lengthAt r) (length r))

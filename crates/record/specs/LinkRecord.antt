@@ -16,6 +16,9 @@ use Rattle.link.specs.Kept.{NoneIsZero}
 use Rattle.record.specs.declared.Slot.{Slot}
 use Rattle.record.specs.Octets.{Octets, at, two, bit}
 
+abbrev pub recordOctets : ℕ
+recordOctets = 16
+
 abbrev pub stateCode : State → ℕ
 stateCode State.S111 = 1
 stateCode State.S141 = 2
@@ -91,7 +94,7 @@ wellFormed r =
 
 -- What octets are as a link's record.
 unfoldable pub slotOf : List ℕ → Slot
-slotOf r = cond (eqb (length r) 16 && wellFormed r) (Slot.Holds (linkOf r)) Slot.IllFormed
+slotOf r = cond (eqb (length r) recordOctets && wellFormed r) (Slot.Holds (linkOf r)) Slot.IllFormed
 
 -- ROUND TRIPS. Unpacking what was packed gives the record.
 abbrev pub Unpacked : Type 0
@@ -110,4 +113,4 @@ UnpackedGood = (r : List ℕ) → wellFormed r ≡ true → GoodLink (linkOf r)
 
 -- Packing what was unpacked gives the same sixteen octets.
 abbrev pub Repacked : Type 0
-Repacked = (r : List ℕ) → Octets r → length r ≡ 16 → wellFormed r ≡ true → octetsOf (linkOf r) ≡ r
+Repacked = (r : List ℕ) → Octets r → length r ≡ recordOctets → wellFormed r ≡ true → octetsOf (linkOf r) ≡ r

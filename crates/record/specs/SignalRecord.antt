@@ -8,7 +8,7 @@ use Rattle.unit.specs.Unit.{unitOf}
 use Rattle.link.specs.declared.Carries.{Carries}
 use Rattle.link.specs.declared.Signal.{Signal}
 use Rattle.record.specs.Octets.{Octets, over}
-use Rattle.record.specs.Frame.{SG, framedAs, written, linkAt, codeAt, paramAt, numberAt, lengthAt, messageOf}
+use Rattle.record.specs.Frame.{headOctets, messageOctets, SG, framedAs, written, linkAt, codeAt, paramAt, numberAt, lengthAt, messageOf}
 
 -- The message: none, a unit, or that of the event, m.
 abbrev pub bodyOf : Carries → List ℕ → List ℕ
@@ -38,7 +38,7 @@ pub record Says (r : List ℕ) (k : ℕ) (m : List ℕ) (s : Signal) : Type 0 wh
   pub message : messageOf r ≡ bodyOf (s .carries) m
 
 abbrev pub SignalReread : Type 0
-SignalReread = (link : ℕ) (m : List ℕ) (s : Signal) → length m ≤ 4096 → Says (signalOctets link m s) link m s
+SignalReread = (link : ℕ) (m : List ℕ) (s : Signal) → length m ≤ messageOctets → Says (signalOctets link m s) link m s
 
 -- Writing what was read gives the same octets.
 abbrev pub SignalRewritten : Type 0
@@ -46,8 +46,8 @@ SignalRewritten = (r : List ℕ) → Octets r → framedAs SG r ≡ true → wri
 
 -- Of records one behind the other, the first ends where its length says, and the others follow.
 pub record Apart (octets r rest : List ℕ) : Type 0 where
-  pub first : take (12 + lengthAt octets) octets ≡ r
-  pub others : drop (12 + lengthAt octets) octets ≡ rest
+  pub first : take (headOctets + lengthAt octets) octets ≡ r
+  pub others : drop (headOctets + lengthAt octets) octets ≡ rest
 
 abbrev pub SignalsApart : Type 0
 SignalsApart =

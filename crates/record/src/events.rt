@@ -8,8 +8,14 @@ use unit::Arrived;
 use unit::Field;
 ghost use mathlib.Core.Path.{_≡_};
 ghost use Prim.Native.Nat.{_≤_};
-ghost use lib.ListN.{length, drop};
+ghost use lib.ListN.{length};
+ghost use Rattle.record.specs.Frame.{headOctets, messageOf};
 ghost use Rattle.record.specs.EventRecord.{framed, codedAt, isStatus, hasMessage, hasNumber, hasParameter, misfit, fieldsOf, readingOf};
+
+// The octets of a record before its message, and the most of a message.
+pub const HEAD: usize = 12;
+
+pub const MESSAGE: u16 = 4096;
 
 // The mark of an event.
 pub const EV: [u8; 2] = *b"EV";
@@ -18,19 +24,19 @@ pub const EV: [u8; 2] = *b"EV";
 fn framed(e: &[u8]) -> bool
     ensures { λ r. ⌜ r ≡ framed (now (e .entry)) ⌝ }
 {
-    if e.len() < 12 {
+    if e.len() < HEAD {
         return false;
     }
     let len = wide(e[10], e[11]);
-    marked(e, &EV) & (e[9] == 0) & (len <= 4096) & (12 + len as usize == e.len())
+    marked(e, &EV) & (e[9] == 0) & (len <= MESSAGE) & (HEAD + len as usize == e.len())
 }
 
 // The message, a part of the caller's own octets.
 pub fn message(e: &[u8]) -> &[u8]
-    requires { ⌜ 12 ≤ length (now e) ⌝ }
-    ensures { λ r. ⌜ now r ≡ drop 12 (now (e .entry)) ⌝ }
+    requires { ⌜ headOctets ≤ length (now e) ⌝ }
+    ensures { λ r. ⌜ now r ≡ messageOf (now (e .entry)) ⌝ }
 {
-    &e[12..]
+    &e[HEAD..]
 }
 
 // What a code says: an event with what it carries, or nothing that document 01 has.
@@ -134,7 +140,7 @@ pub enum Reading {
 
 // Checks 3 and 4.
 fn fields(e: &[u8]) -> Reading
-    requires { ⌜ 12 ≤ length (now e) ⌝ }
+    requires { ⌜ headOctets ≤ length (now e) ⌝ }
     ensures { λ r. ⌜ r ≡ fieldsOf (now (e .entry)) ⌝ }
 {
     let num = Num {

@@ -17,11 +17,14 @@ ghost use lib.ListN.{length};
 ghost use Rattle.record.specs.Octets.{at, two, bit};
 ghost use Rattle.record.specs.LinkRecord.{stateCode, stateAt, mpsAt, upsAt, octetsOf, linkOf, wellFormed, slotOf};
 
+// The octets of a link's record.
+pub const RECORD: usize = 16;
+
 // The mark of a link's record.
 pub const LK: [u8; 2] = *b"LK";
 
 // Two octets as a number, the higher first.
-pub fn wide(a: u8, b: u8) -> u16
+fn wide(a: u8, b: u8) -> u16
     ensures { λ r. ⌜ r ≡ two a b ⌝ }
 {
     a as u16 * 256 + b as u16
@@ -172,7 +175,7 @@ pub enum Slot {
 pub fn read_link(r: &[u8]) -> Slot
     ensures { λ s. ⌜ s ≡ slotOf (now (r .entry)) ⌝ }
 {
-    if r.len() != 16 {
+    if r.len() != RECORD {
         return Slot::IllFormed;
     }
     if well_formed(r) {

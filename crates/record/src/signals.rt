@@ -1,5 +1,6 @@
 // The signal record of document 01: twelve octets and the message that goes with the signal, one record behind the other.
 
+use super::events::HEAD;
 use super::writing::put;
 use super::writing::put_at;
 use link::Carries;
@@ -12,7 +13,7 @@ ghost use Prim.Native.Nat.{_+_, _≤_};
 ghost use lib.ListN.{length};
 ghost use Rattle.link.specs.Stored.{signalsOf};
 ghost use Rattle.record.specs.Octets.{putAt};
-ghost use Rattle.record.specs.Frame.{SG, headOf};
+ghost use Rattle.record.specs.Frame.{headOctets, messageOctets, SG, headOf};
 ghost use Rattle.record.specs.SignalRecord.{bodyOf, signalOctets, joined, Put};
 
 // The mark of a signal.
@@ -47,26 +48,26 @@ fn body_len(c: Carries, message: &[u8]) -> usize
     }
 }
 
-// Writes the message of a signal into out from place 12.
+// Writes the message of a signal into out behind its head.
 fn put_body(out: &mut [u8], c: Carries, message: &[u8])
-    requires { ⌜ 12 + length (bodyOf c (now message)) ≤ length (now out) ⌝ }
-    ensures { λ _. ⌜ now (out .exit) ≡ putAt (now (out .entry)) 12 (bodyOf c (now (message .entry))) ⌝ }
+    requires { ⌜ headOctets + length (bodyOf c (now message)) ≤ length (now out) ⌝ }
+    ensures { λ _. ⌜ now (out .exit) ≡ putAt (now (out .entry)) headOctets (bodyOf c (now (message .entry))) ⌝ }
 {
     match c {
         Carries::Nothing => {}
         Carries::Unit(s) => {
             let unit = unit::write(s);
-            put_at(out, 12, &unit);
+            put_at(out, HEAD, &unit);
         }
         Carries::Message => {
-            put_at(out, 12, message);
+            put_at(out, HEAD, message);
         }
     }
 }
 
 // Writes one signal over the front of out, and answers its length.
 fn put_signal(out: &mut [u8], link: u16, s: Signal, message: &[u8]) -> usize
-    requires { ⌜ (12 + length (bodyOf (s .carries) (now message)) ≤ length (now out)) × (length (now message) ≤ 4096) ⌝ }
+    requires { ⌜ (headOctets + length (bodyOf (s .carries) (now message)) ≤ length (now out)) × (length (now message) ≤ messageOctets) ⌝ }
     ensures { λ r. ⌜ Put (signalOctets link (now (message .entry)) s) (now (out .entry)) r (now (out .exit)) ⌝ }
 {
     let c = s.carries;
@@ -74,12 +75,12 @@ fn put_signal(out: &mut [u8], link: u16, s: Signal, message: &[u8]) -> usize
     let twelve = head(link, s, len as u16);
     put(out, &twelve);
     put_body(out, c, message);
-    12 + len
+    HEAD + len
 }
 
 // Writes what a step says over the front of out, one record behind the other, and answers the length of it all.
 pub fn put_all(out: &mut [u8], link: u16, said: Said, message: &[u8]) -> usize
-    requires { ⌜ (length (joined link (now message) (signalsOf said)) ≤ length (now out)) × (length (now message) ≤ 4096) ⌝ }
+    requires { ⌜ (length (joined link (now message) (signalsOf said)) ≤ length (now out)) × (length (now message) ≤ messageOctets) ⌝ }
     ensures { λ r. ⌜ Put (joined link (now (message .entry)) (signalsOf said)) (now (out .entry)) r (now (out .exit)) ⌝ }
 {
     let n = count(said);

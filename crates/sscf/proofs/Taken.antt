@@ -12,7 +12,7 @@ use Rattle.link.specs.Step as machine
 use Rattle.link.specs.Kept.{Keeps, After}
 use Rattle.link.proofs.Kept.{kept}
 use Rattle.record.specs.Octets.{over, putAt}
-use Rattle.record.specs.LinkRecord.{linkOf, octetsOf}
+use Rattle.record.specs.LinkRecord.{octetsOf}
 use Rattle.record.specs.Frame.{EV, linkAt, messageOf}
 use Rattle.record.specs.EventRecord.{framed}
 use Rattle.record.specs.SignalRecord.{joined}
@@ -20,7 +20,7 @@ use Rattle.record.proofs.Frame.{sound, message-length}
 use Rattle.record.proofs.SignalRecord.{joined-small}
 use Rattle.sscf.specs.declared.checks.Refusal.{Refusal}
 use Rattle.sscf.specs.Checks.{passed, refused, first}
-use Rattle.sscf.specs.Step.{records, recordAt, eventOf, checks, answered, answering, refusedBy, stepCall}
+use Rattle.sscf.specs.Step.{records, eventOf, linkFor, checks, answered, answering, refusedBy, stepCall}
 use Rattle.sscf.proofs.Places.{unnot, clear}
 
 pub record Taken (t e : List ℕ) (room : ℕ) : Type 0 where
@@ -42,10 +42,10 @@ message-small e f = omega (arith, message-length EV e f, sound EV e f .few)
 
 -- what the event named by e makes of its link
 abbrev pub Makes : List ℕ → List ℕ → Link → List Signal → Type 0
-Makes t e next signals = machine.stepOf (linkOf (recordAt t (linkAt e))) (eventOf e) ≡ machine.Legal next signals
+Makes t e next signals = machine.stepOf (linkFor t e) (eventOf e) ≡ machine.Legal next signals
 
-pub made-after : (t e : List ℕ) {next : Link} {signals : List Signal} → Makes t e next signals → After (linkOf (recordAt t (linkAt e))) next signals
-made-after t e h = subst (Keeps (linkOf (recordAt t (linkAt e)))) h (kept (linkOf (recordAt t (linkAt e))) (eventOf e))
+pub made-after : (t e : List ℕ) {next : Link} {signals : List Signal} → Makes t e next signals → After (linkFor t e) next signals
+made-after t e h = subst (Keeps (linkFor t e)) h (kept (linkFor t e) (eventOf e))
 
 -- all signals have room
 pub room-for : (t e : List ℕ) {next : Link} {signals : List Signal} → framed e ≡ true → Makes t e next signals → length (joined (linkAt e) (messageOf e) signals) ≤ 4192

@@ -12,14 +12,14 @@ use Rattle.link.specs.declared.Link.{Link}
 use Rattle.link.specs.declared.Signal.{Signal}
 use Rattle.link.specs.Step as machine
 use Rattle.record.specs.Octets.{over, putAt}
-use Rattle.record.specs.LinkRecord.{wellFormed, linkOf, octetsOf, GoodLink}
+use Rattle.record.specs.LinkRecord.{wellFormed, octetsOf, GoodLink}
 use Rattle.record.specs.Frame.{linkAt, messageOf}
 use Rattle.record.specs.SignalRecord.{joined}
 use Rattle.record.proofs.Over.{length-over, over-front, over-rest, length-put, put-there, put-before, put-after}
 use Rattle.record.proofs.LinkRecord.{octets-length, packed-well, unpacked-good}
 use Rattle.sscf.specs.declared.checks.Refusal.{Refusal}
 use Rattle.sscf.specs.Checks.{number, Verdict, passed, refused, first}
-use Rattle.sscf.specs.Step.{records, recordAt, eventOf, checks, linkChecks, Outcome, answered, answering, refusedBy, performed, outcome, stepCall}
+use Rattle.sscf.specs.Step.{records, recordAt, eventOf, linkFor, checks, Outcome, answered, answering, refusedBy, performed, outcome, stepCall}
 use Rattle.sscf.specs.Untouched.{RefusalsUntouched, OthersUntouched, RestUntouched, AtMost4192, SameLengths, Refused4191, Taken4192, Written, AcceptedWritten, StaysWellFormed}
 use Rattle.sscf.proofs.Places.{inside, clear, none}
 use Rattle.sscf.proofs.Taken.{Taken, taken, Makes, made-after, room-for, step-accepted}
@@ -32,14 +32,14 @@ done t e o next signals =
 -- a step is refused, or it is accepted
 module _ (t e o : List ℕ) (P : Outcome → Type 0) (r : (x : Refusal) → P (refusedBy x t o))
     (a : (next : Link) (signals : List Signal) → first (checks t e (length o)) ≡ passed → Makes t e next signals → P (done t e o next signals)) where
-  by-cell : (w : machine.Outcome) → machine.stepOf (linkOf (recordAt t (linkAt e))) (eventOf e) ≡ w → first (checks t e (length o)) ≡ passed →
+  by-cell : (w : machine.Outcome) → machine.stepOf (linkFor t e) (eventOf e) ≡ w → first (checks t e (length o)) ≡ passed →
       P (performed w t (linkAt e) (messageOf e) o)
   by-cell machine.Illegal h p = r Refusal.Cell
   by-cell (machine.Legal next signals) h p = a next signals p h
 
   by-verdict : (v : Verdict) → first (checks t e (length o)) ≡ v → P (outcome v t e o)
   by-verdict (refused x) h = r x
-  by-verdict passed h = by-cell (machine.stepOf (linkOf (recordAt t (linkAt e))) (eventOf e)) refl h
+  by-verdict passed h = by-cell (machine.stepOf (linkFor t e) (eventOf e)) refl h
 
   pub either-way : P (stepCall t e o)
   unfolding stepCall

@@ -5,9 +5,11 @@ use mathlib.Core.List.{List}
 use Rattle.link.specs.Step as machine
 use Rattle.link.specs.Stored.{signalsOf}
 use Rattle.sscf.specs.declared.checks.Plan.{Plan}
+use Rattle.record.specs.Frame.{linkAt}
 use Rattle.sscf.specs.Checks.{Check, passed, refused, first}
+use Rattle.sscf.specs.Step.{linkFor, eventOf}
 
--- A plan after these checks, for link k and what Table 6 gives.
-abbrev pub Planned : List Check → ℕ → machine.Outcome → Plan → Type 0
-Planned cs k o (Plan.Refused r) = first cs ≡ refused r
-Planned cs k o (Plan.Go link next said) = (first cs ≡ passed) × (link ≡ k) × (o ≡ machine.Legal next (signalsOf said))
+-- A plan after some of the checks of a step.
+abbrev pub Planned : List Check → List ℕ → List ℕ → Plan → Type 0
+Planned cs t e (Plan.Refused r) = first cs ≡ refused r
+Planned cs t e (Plan.Go link next said) = (first cs ≡ passed) × (link ≡ linkAt e) × (machine.stepOf (linkFor t e) (eventOf e) ≡ machine.Legal next (signalsOf said))

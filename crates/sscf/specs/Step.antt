@@ -11,8 +11,8 @@ use Rattle.link.specs.declared.Event.the-variants as event
 use Rattle.link.specs.Step as machine
 use Rattle.record.specs.declared.events.Coded.{Coded}
 use Rattle.record.specs.Octets.{over, putAt}
-use Rattle.record.specs.LinkRecord.{wellFormed, linkOf, octetsOf}
-use Rattle.record.specs.Frame.{linkAt, codeAt, paramAt, numberAt, lengthAt, messageOf}
+use Rattle.record.specs.LinkRecord.{recordOctets, wellFormed, linkOf, octetsOf}
+use Rattle.record.specs.Frame.{headOctets, messageOctets, linkAt, codeAt, paramAt, numberAt, lengthAt, messageOf}
 use Rattle.record.specs.EventRecord.{framed, codedAt, misfit}
 use Rattle.record.specs.SignalRecord.{joined}
 use Rattle.sscf.specs.declared.Answer.{Answer}
@@ -21,16 +21,20 @@ use Rattle.sscf.specs.Checks.{number, Check, _if_, Verdict, passed, refu
 
 -- THE TABLE
 
+-- at most
+abbrev pub tableOctets : ℕ
+tableOctets = 4096
+
 -- "Table empty, not a multiple of 16, or over 4,096 octets."
 abbrev pub badTable : List ℕ → Bool
-badTable t = eqb (length t) 0 || not (eqb (length t % 16) 0) || ltb 4096 (length t)
+badTable t = eqb (length t) 0 || not (eqb (length t % recordOctets) 0) || ltb tableOctets (length t)
 
 abbrev pub records : List ℕ → ℕ
-records t = length t / 16
+records t = length t / recordOctets
 
 -- the record of link k
 abbrev pub recordAt : List ℕ → ℕ → List ℕ
-recordAt t k = take 16 (drop (16 * k) t)
+recordAt t k = take recordOctets (drop (recordOctets * k) t)
 
 -- THE EVENT
 
@@ -53,21 +57,19 @@ eventOf e = said (codedIn e)
 abbrev pub idle : Link → ℕ → Bool
 idle l code = (eqb code 48 && not (l .t1)) || (eqb code 49 && not (l .t2)) || (eqb code 50 && not (l .t3))
 
--- THE CHECKS
+-- THE CHECKS, in document 01's order
 
 abbrev pub isIllegal : machine.Outcome → Bool
 isIllegal machine.Illegal = true
 isIllegal (machine.Legal next signals) = false
 
--- of link k, for an event with this code and this room for signals
-abbrev pub linkChecks : List ℕ → ℕ → ℕ → Event → ℕ → List Check
-linkChecks t k code x room =
-    (Refusal.Link if leb (records t) k)
-    ∷ (Refusal.Record if not (wellFormed (recordAt t k)))
-    ∷ (Refusal.Timer if idle (linkOf (recordAt t k)) code)
-    ∷ (Refusal.Cell if isIllegal (machine.stepOf (linkOf (recordAt t k)) x))
-    ∷ (Refusal.Room if ltb room 4192)
-    ∷ []
+-- the named link, before the event
+abbrev pub linkFor : List ℕ → List ℕ → Link
+linkFor t e = linkOf (recordAt t (linkAt e))
+
+-- the least of an output: eight heads and the longest message
+abbrev pub outputOctets : ℕ
+outputOctets = 8 * headOctets + messageOctets
 
 abbrev pub checks : List ℕ → List ℕ → ℕ → List Check
 checks t e room =
@@ -75,7 +77,12 @@ checks t e room =
     ∷ (Refusal.Frame if not (framed e))
     ∷ (Refusal.Code if unknown (codedIn e))
     ∷ (Refusal.Field if misfit (codeAt e) (paramAt e) (numberAt e) (lengthAt e))
-    ∷ linkChecks t (linkAt e) (codeAt e) (eventOf e) room
+    ∷ (Refusal.Link if leb (records t) (linkAt e))
+    ∷ (Refusal.Record if not (wellFormed (recordAt t (linkAt e))))
+    ∷ (Refusal.Timer if idle (linkFor t e) (codeAt e))
+    ∷ (Refusal.Cell if isIllegal (machine.stepOf (linkFor t e) (eventOf e)))
+    ∷ (Refusal.Room if ltb room outputOctets)
+    ∷ []
 
 -- THE CALL
 
@@ -98,11 +105,11 @@ refusedBy r t o = answering (answered (number r) 0 0) t o
 abbrev pub performed : machine.Outcome → List ℕ → ℕ → List ℕ → List ℕ → Outcome
 performed machine.Illegal t k m o = refusedBy Refusal.Cell t o
 performed (machine.Legal next signals) t k m o =
-    answering (answered 0 (length (joined k m signals)) (length signals)) (putAt t (16 * k) (octetsOf next)) (over (joined k m signals) o)
+    answering (answered 0 (length (joined k m signals)) (length signals)) (putAt t (recordOctets * k) (octetsOf next)) (over (joined k m signals) o)
 
 abbrev pub outcome : Verdict → List ℕ → List ℕ → List ℕ → Outcome
 outcome (refused r) t e o = refusedBy r t o
-outcome passed t e o = performed (machine.stepOf (linkOf (recordAt t (linkAt e))) (eventOf e)) t (linkAt e) (messageOf e) o
+outcome passed t e o = performed (machine.stepOf (linkFor t e) (eventOf e)) t (linkAt e) (messageOf e) o
 
 unfoldable pub stepCall : List ℕ → List ℕ → List ℕ → Outcome
 stepCall t e o = outcome (first (checks t e (length o))) t e o

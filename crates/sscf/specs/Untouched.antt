@@ -8,10 +8,10 @@ use Rattle.link.specs.declared.Link.{Link}
 use Rattle.link.specs.declared.Signal.{Signal}
 use Rattle.link.specs.Fresh.{freshLink}
 use Rattle.link.specs.Step as machine
-use Rattle.record.specs.LinkRecord.{wellFormed, linkOf, octetsOf}
+use Rattle.record.specs.LinkRecord.{wellFormed, octetsOf}
 use Rattle.record.specs.Frame.{linkAt, messageOf}
 use Rattle.record.specs.SignalRecord.{joined}
-use Rattle.sscf.specs.Step.{records, recordAt, eventOf, answered, answering, Outcome, stepCall}
+use Rattle.sscf.specs.Step.{records, recordAt, eventOf, linkFor, answered, answering, Outcome, stepCall}
 use Rattle.sscf.specs.Fresh.{freshCall}
 
 -- THE STEP. A refusal answers no octets and no signals, and changes nothing.
@@ -45,7 +45,7 @@ Taken4192 = (t e o p : List ℕ) → stepCall t e o .answer .refusal ≡ 0 → l
 pub record Written (t e : List ℕ) (after : Outcome) : Type 0 where
   pub next : Link
   pub signals : List Signal
-  pub gives : machine.stepOf (linkOf (recordAt t (linkAt e))) (eventOf e) ≡ machine.Legal next signals
+  pub gives : machine.stepOf (linkFor t e) (eventOf e) ≡ machine.Legal next signals
   pub counted : after .answer .signals ≡ length signals
   pub octets : take (after .answer .octets) (after .output) ≡ joined (linkAt e) (messageOf e) signals
   pub packed : recordAt (after .table) (linkAt e) ≡ octetsOf next

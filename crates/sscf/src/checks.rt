@@ -4,17 +4,17 @@ use link::Answer;
 use link::Event;
 use link::Link;
 use link::Said;
+use record::RECORD;
 use record::Slot;
 use record::events;
 use record::events::Reading;
 ghost use mathlib.Core.Path.{_≡_};
-ghost use Prim.Native.Nat.{_+_, _*_, _<_};
-ghost use lib.ListN.{length};
-ghost use Rattle.link.specs.Step.{stepOf};
-ghost use Rattle.record.specs.LinkRecord.{slotOf, linkOf};
-ghost use Rattle.record.specs.Frame.{linkAt};
+ghost use Prim.Native.Nat.{_≤_, _<_};
+ghost use lib.ListN.{length, drop};
+ghost use Rattle.record.specs.LinkRecord.{slotOf};
+ghost use Rattle.record.specs.Frame.{headOctets, linkAt};
 ghost use Rattle.sscf.specs.Checks.{number};
-ghost use Rattle.sscf.specs.Step.{badTable, records, recordAt, eventOf, idle, linkChecks, checks};
+ghost use Rattle.sscf.specs.Step.{badTable, records, recordAt, eventOf, idle, checks};
 ghost use Rattle.sscf.specs.Plan.{Planned};
 
 pub enum Refusal {
@@ -47,9 +47,7 @@ impl Refusal {
     }
 }
 
-// The octets of a link's record, of the longest table, and the least of an output.
-pub const RECORD: usize = 16;
-
+// The octets of the longest table, and the least of an output.
 pub const TABLE: usize = 4096;
 
 pub const ROOM: usize = 4192;
@@ -85,9 +83,10 @@ pub enum Plan {
     Go { link: u16, next: Link, said: Said },
 }
 
-// Checks 5 to 9, of link k.
-fn link_plan(t: &[u8], k: u16, code: u8, e: Event, room: usize) -> Plan
-    ensures { λ r. ⌜ Planned (linkChecks (now (t .entry)) k code e room) k (stepOf (linkOf (recordAt (now (t .entry)) k)) e) r ⌝ }
+// Checks 5 to 9, of link k and event x, which the octets e hold.
+fn link_plan(t: &[u8], e: &[u8], k: u16, x: Event, room: usize) -> Plan
+    requires { ⌜ (headOctets ≤ length (now e)) × (k ≡ linkAt (now e)) × (x ≡ eventOf (now e)) ⌝ }
+    ensures { λ r. ⌜ Planned (drop 4 (checks (now (t .entry)) (now (e .entry)) room)) (now (t .entry)) (now (e .entry)) r ⌝ }
 {
     if t.len() / RECORD <= k as usize {
         return Plan::Refused(Refusal::Link);
@@ -95,10 +94,10 @@ fn link_plan(t: &[u8], k: u16, code: u8, e: Event, room: usize) -> Plan
     match slot_at(t, k as usize) {
         Slot::IllFormed => Plan::Refused(Refusal::Record),
         Slot::Holds(l) => {
-            if idle(l, code) {
+            if idle(l, e[4]) {
                 return Plan::Refused(Refusal::Timer);
             }
-            match link::step(l, e) {
+            match link::step(l, x) {
                 Answer::Illegal => Plan::Refused(Refusal::Cell),
                 Answer::Legal(next, said) => {
                     if room < ROOM {
@@ -117,7 +116,7 @@ fn link_plan(t: &[u8], k: u16, code: u8, e: Event, room: usize) -> Plan
 
 // All nine.
 pub fn planned(t: &[u8], e: &[u8], room: usize) -> Plan
-    ensures { λ r. ⌜ Planned (checks (now (t .entry)) (now (e .entry)) room) (linkAt (now (e .entry))) (stepOf (linkOf (recordAt (now (t .entry)) (linkAt (now (e .entry))))) (eventOf (now (e .entry)))) r ⌝ }
+    ensures { λ r. ⌜ Planned (checks (now (t .entry)) (now (e .entry)) room) (now (t .entry)) (now (e .entry)) r ⌝ }
 {
     if bad_table(t) {
         return Plan::Refused(Refusal::Table);
@@ -126,6 +125,6 @@ pub fn planned(t: &[u8], e: &[u8], room: usize) -> Plan
         Reading::BadFrame => Plan::Refused(Refusal::Frame),
         Reading::UnknownCode => Plan::Refused(Refusal::Code),
         Reading::Misfit => Plan::Refused(Refusal::Field),
-        Reading::Holds { link, event } => link_plan(t, link, e[4], event, room),
+        Reading::Holds { link, event } => link_plan(t, e, link, event, room),
     }
 }

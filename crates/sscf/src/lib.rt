@@ -1,18 +1,22 @@
 // The two calls for C hosts: a fresh table, and one event for one link of a table.
-pub mod checks;
+mod checks;
 
 use checks::Plan;
-use checks::RECORD;
 use checks::Refusal;
+use record::RECORD;
 use record::events::message;
 use record::signals::put_all;
 use record::writing::put_at;
 ghost use mathlib.Core.Path.{_≡_};
-ghost use Prim.Native.Nat.{_%_, _/_};
+ghost use Prim.Native.Nat.{_%_};
 ghost use lib.ListN.{length};
+ghost use Rattle.record.specs.LinkRecord.{recordOctets};
 ghost use Rattle.sscf.specs.Checks.{number};
-ghost use Rattle.sscf.specs.Step.{answered, answering, stepCall};
+ghost use Rattle.sscf.specs.Step.{records, answered, answering, stepCall};
 ghost use Rattle.sscf.specs.Fresh.{copies, making, freshCall};
+
+// In place of a refusal's number.
+pub const ACCEPTED: u32 = 0;
 
 // What the step answers: 0 or the refusal, the octets written and the signals counted.
 #[repr(C)]
@@ -44,7 +48,7 @@ pub extern "C" fn sscf_step(table: &mut [u8], event: &[u8], out: &mut [u8]) -> A
             let packed = record::pack(next);
             put_at(table, RECORD * link as usize, &packed);
             Answer {
-                refusal: 0,
+                refusal: ACCEPTED,
                 octets: octets,
                 signals: link::signals::count(said) as u32,
             }
@@ -54,8 +58,8 @@ pub extern "C" fn sscf_step(table: &mut [u8], event: &[u8], out: &mut [u8]) -> A
 
 // Writes a record over all of a table, as often as it has place.
 fn fill(table: &mut [u8], r: &[u8])
-    requires { ⌜ (length (now table) % 16 ≡ 0) × (length (now r) ≡ 16) ⌝ }
-    ensures { λ _. ⌜ now (table .exit) ≡ copies (length (now (table .entry)) / 16) (now (r .entry)) ⌝ }
+    requires { ⌜ (length (now table) % recordOctets ≡ 0) × (length (now r) ≡ recordOctets) ⌝ }
+    ensures { λ _. ⌜ now (table .exit) ≡ copies (records (now (table .entry))) (now (r .entry)) ⌝ }
 {
     let mut at = 0;
     while at < table.len() {
@@ -77,5 +81,5 @@ pub extern "C" fn sscf_fresh(table: &mut [u8], n1: u16) -> u32
     }
     let packed = record::pack(link::fresh(n1));
     fill(table, &packed);
-    0
+    ACCEPTED
 }

@@ -7,16 +7,14 @@ use lib.ListN.{length}
 use borrow.Author.Needs.{needs}
 use Rattle.link.specs.declared.Link.{Link}
 use Rattle.link.specs.declared.Signal.{Signal}
-use Rattle.link.specs.declared.Said.{Said}
-use Rattle.link.specs.Step as machine
 use Rattle.link.specs.Stored.{signalsOf}
 use Rattle.record.specs.Octets.{over, putAt}
-use Rattle.record.specs.LinkRecord.{linkOf, octetsOf}
+use Rattle.record.specs.LinkRecord.{octetsOf}
 use Rattle.record.specs.Frame.{EV, linkAt, messageOf}
 use Rattle.record.specs.SignalRecord.{joined}
 use Rattle.record.proofs.Frame.{sound}
 use Rattle.sscf.specs.declared.checks.Plan.{Plan}
-use Rattle.sscf.specs.Step.{recordAt, eventOf, checks, answered, answering}
+use Rattle.sscf.specs.Step.{checks, answered, answering}
 use Rattle.sscf.specs.Plan.{Planned}
 use Rattle.sscf.proofs.Places.{inside}
 use Rattle.sscf.proofs.Taken.{Taken, taken, message-small, room-for, step-refused, step-accepted}
@@ -42,8 +40,7 @@ N c = c .link .given .0 .1 .0
 abbrev S : tie.After-link → List Signal
 S c = signalsOf (c .link .given .0 .1 .1 .0)
 
-go : (c : tie.After-link) →
-    Planned (checks (T c) (E c) (length (O c))) (linkAt (E c)) (machine.stepOf (linkOf (recordAt (T c) (linkAt (E c)))) (eventOf (E c))) (Plan.Go (K c) (N c) (c .link .given .0 .1 .1 .0))
+go : (c : tie.After-link) → Planned (checks (T c) (E c) (length (O c))) (T c) (E c) (Plan.Go (K c) (N c) (c .link .given .0 .1 .1 .0))
 go c = rw (c .link .given .1) at (c .before .before .planned .ensures)
 
 tk : (c : tie.After-link) → Taken (T c) (E c) (length (O c))

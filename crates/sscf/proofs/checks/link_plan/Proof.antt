@@ -1,57 +1,67 @@
 -- `checks::link_plan` meets its contract. Assumes nothing.
-use mathlib.Core.Path.{_≡_, refl, sym, ap, subst, _∙_}
-use mathlib.Core.Bool.{true, false, not, _&&_}
+use mathlib.Core.Path.{_≡_, sym, ap, subst, _∙_}
+use mathlib.Core.Bool.{true, false}
 use mathlib.Core.List.{List}
 use Prim.Native.Nat.{ℕ, _<_}
-use lib.Dec.{eqb, leb}
+use lib.Dec.{leb}
 use lib.ListN.{length}
 use borrow.Author.Tests.{le-leb, lt-leb, lt-ltb, le-ltb, eq-eqb}
 use borrow.Author.Needs.{needs}
-use Rattle.link.specs.declared.Link.{Link}
+use Rattle.link.specs.declared.Event.{Event}
 use Rattle.link.specs.Step as machine
 use Rattle.link.specs.Stored.{signalsOf, heard}
 use Rattle.record.specs.declared.Slot.{Slot}
-use Rattle.record.specs.LinkRecord.{wellFormed, linkOf}
+use Rattle.record.specs.LinkRecord.{recordOctets, wellFormed, slotOf}
+use Rattle.record.specs.Frame.{linkAt, codeAt}
 use Rattle.record.proofs.LinkRecord.{SlotTold, slot-tells}
-use Rattle.sscf.specs.Step.{records, recordAt, idle}
+use Rattle.sscf.specs.Step.{records, recordAt, eventOf, linkFor, idle}
 use Rattle.sscf.proofs.Places.{record-length}
 use Rattle.sscf.proofs.checks.link_plan.Statement.{statement}
 use Rattle.sscf.proofs.checks.link_plan.Tie as tie
 
--- past check 5: the table and the link's number
+-- past check 5: the table, the event, and the named record, which the code finds by its number k
 abbrev T : tie.Else1 → List ℕ
-T c = c .before .before .args .t .now
+T c = c .before .before .before .args .t .now
 
-abbrev K : tie.Else1 → ℕ
-K c = c .before .before .args .k
+abbrev E : tie.Else1 → List ℕ
+E c = c .before .before .before .args .e .now
 
-inside : (c : tie.Else1) → leb (records (T c)) (K c) ≡ false
-inside c = lt-leb _ _ (c .if1 .left)
+abbrev R : tie.Else1 → List ℕ
+R c = recordAt (T c) (linkAt (E c))
 
--- an ill-formed slot
-ill : (c : tie.After-slot-at) → c .slot-at .result ≡ Slot.IllFormed → wellFormed (recordAt (T (c .before)) (K (c .before))) ≡ false
+below : (c : tie.Else1) → linkAt (E c) < records (T c)
+below c = subst (λ (k : ℕ). k < records (T c)) (c .before .before .before .pre .1) (c .if1 .left)
+
+inside : (c : tie.Else1) → leb (records (T c)) (linkAt (E c)) ≡ false
+inside c = lt-leb _ _ (below c)
+
+-- what the reading of the record told
+told : (c : tie.After-slot-at) (s : Slot) → c .slot-at .result ≡ s → SlotTold (R (c .before)) s
+told c s e =
+    let r : c .slot-at .result ≡ slotOf (R (c .before)) = c .slot-at .ensures ∙ ap (λ (k : ℕ). slotOf (recordAt (T (c .before)) k)) (c .before .before .before .before .pre .1) in
+    subst (SlotTold (R (c .before))) (sym r ∙ e) (slot-tells (R (c .before)))
+
+ill : (c : tie.After-slot-at) → c .slot-at .result ≡ Slot.IllFormed → wellFormed (R (c .before)) ≡ false
 ill c e =
-    let t = T (c .before) in
-    let k = K (c .before) in
-    let s : SlotTold (recordAt t k) Slot.IllFormed = subst (SlotTold (recordAt t k)) (sym (c .slot-at .ensures) ∙ e) (slot-tells (recordAt t k)) in
-    rw (eq-eqb (length (recordAt t k)) 16 (record-length t k (c .before .if1 .left))) at s
+    let s = told c Slot.IllFormed e in
+    rw (eq-eqb (length (R (c .before))) recordOctets (record-length (T (c .before)) (linkAt (E (c .before))) (below (c .before)))) at s
 
--- a slot that holds a link
-held : (c : tie.After-l) → SlotTold (recordAt (T (c .before .before .before)) (K (c .before .before .before))) (Slot.Holds (c .l .given .0 .0))
-held c =
-    let r = recordAt (T (c .before .before .before)) (K (c .before .before .before)) in
-    subst (SlotTold r) (sym (c .before .before .slot-at .ensures) ∙ c .l .given .1) (slot-tells r)
+held : (c : tie.After-l) → SlotTold (R (c .before .before .before)) (Slot.Holds (c .l .given .0 .0))
+held c = told (c .before .before) _ (c .l .given .1)
 
 -- past check 7
-running : (c : tie.Else2) → idle (c .before .before .before .l .given .0 .0) (c .before .before .before .before .before .before .before .before .args .code) ≡ false
+running : (c : tie.Else2) → idle (c .before .before .before .before .l .given .0 .0) (codeAt (c .before .before .before .before .before .before .before .before .before .before .args .e .now)) ≡ false
 running c = sym (c .before .idle .ensures) ∙ c .if2 .left
 
--- a legal cell
-legal : (c : tie.After-next) → machine.stepOf (c .before .before .before .before .before .before .l .given .0 .0) (c .before .before .before .before .before .before .before .before .before .before .before .args .e) ≡ machine.Legal (c .next .given .0 .0) (signalsOf (c .next .given .0 .1 .0))
-legal c = sym (c .before .before .step .ensures) ∙ ap heard (c .next .given .1)
+-- what the step told
+stepped : (c : tie.After-step) → machine.stepOf (c .before .before .before .before .before .l .given .0 .0) (eventOf (c .before .before .before .before .before .before .before .before .before .before .before .args .e .now)) ≡ heard (c .step .result)
+stepped c = ap (machine.stepOf (c .before .before .before .before .before .l .given .0 .0)) (sym (c .before .before .before .before .before .before .before .before .before .before .before .pre .2)) ∙ sym (c .step .ensures)
+
+legal : (c : tie.After-next) → machine.stepOf (c .before .before .before .before .before .before .before .l .given .0 .0) (eventOf (c .before .before .before .before .before .before .before .before .before .before .before .before .before .args .e .now)) ≡ machine.Legal (c .next .given .0 .0) (signalsOf (c .next .given .0 .1 .0))
+legal c = stepped (c .before .before) ∙ ap heard (c .next .given .1)
 
 returns : tie.Need-returns
-returns c = rw (le-leb _ _ (c .if1 .taken))
+returns c = rw (← c .before .before .before .pre .1, le-leb _ _ (c .if1 .taken))
 
 slot-at-requires : tie.Need-slot-at-requires
 slot-at-requires c κs = search needs
@@ -62,13 +72,16 @@ enum-told c = search needs
 enum-known-l : tie.Need-enum-known-l
 enum-known-l c = search needs
 
+shared-slice-read-idle : tie.Need-shared-slice-read-idle
+shared-slice-read-idle c = search needs
+
 idle-requires : tie.Need-idle-requires
 idle-requires c κs = search needs
 
 returns-2 : tie.Need-returns-2
 returns-2 c =
-    let h = held (c .before .before .before) in
-    rw (inside (c .before .before .before .before .before .before), h .0, h .1, sym (c .before .idle .ensures) ∙ c .if2 .taken)
+    let h = held (c .before .before .before .before) in
+    rw (inside (c .before .before .before .before .before .before .before), h .0, h .1, sym (c .before .idle .ensures) ∙ c .if2 .taken)
 
 step-requires : tie.Need-step-requires
 step-requires c κs = search needs
@@ -81,21 +94,21 @@ enum-known-next c = search needs
 
 returns-3 : tie.Need-returns-3
 returns-3 c =
-    let h = held (c .before .before .before .before .before .before .before .before) in
-    rw (inside (c .before .before .before .before .before .before .before .before .before .before .before), h .0, h .1, running (c .before .before .before .before .before), legal (c .before .before), lt-ltb _ _ (c .if3 .taken))
+    let h = held (c .before .before .before .before .before .before .before .before .before) in
+    rw (inside (c .before .before .before .before .before .before .before .before .before .before .before .before), h .0, h .1, running (c .before .before .before .before .before), legal (c .before .before), lt-ltb _ _ (c .if3 .taken))
 
 returns-4 : tie.Need-returns-4
 returns-4 c = rw (inside (c .before .before .before), ill (c .before .before) (c .enum-told .given .1))
 
 returns-5 : tie.Need-returns-5
 returns-5 c =
-    let h = held (c .before .before .before .before .before .before) in
-    rw (inside (c .before .before .before .before .before .before .before .before .before), h .0, h .1, running (c .before .before .before), sym (c .before .before .step .ensures) ∙ ap heard (c .enum-told2 .given .1))
+    let h = held (c .before .before .before .before .before .before .before) in
+    rw (inside (c .before .before .before .before .before .before .before .before .before .before), h .0, h .1, running (c .before .before .before), stepped (c .before .before) ∙ ap heard (c .enum-told2 .given .1))
 
 returns-6 : tie.Need-returns-6
 returns-6 c =
-    let h = held (c .before .before .before .before .before .before .before .before) in
-    (rw (inside (c .before .before .before .before .before .before .before .before .before .before .before), h .0, h .1, running (c .before .before .before .before .before), legal (c .before .before), le-ltb _ _ (c .if3 .left)), refl, rw (h .1) (legal (c .before .before)))
+    let h = held (c .before .before .before .before .before .before .before .before .before) in
+    (rw (inside (c .before .before .before .before .before .before .before .before .before .before .before .before), h .0, h .1, running (c .before .before .before .before .before), legal (c .before .before), le-ltb _ _ (c .if3 .left)), c .before .before .before .before .before .before .before .before .before .before .before .before .before .before .before .pre .1, rw (h .1) (legal (c .before .before)))
 
 pub link-plan-spec : {M : Type 1} → statement M
 link-plan-spec =
@@ -105,6 +118,7 @@ link-plan-spec =
     slot-at-requires
     enum-told
     enum-known-l
+    shared-slice-read-idle
     idle-requires
     returns-2
     step-requires

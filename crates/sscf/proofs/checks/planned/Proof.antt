@@ -1,21 +1,17 @@
 -- `checks::planned` meets its contract. Assumes nothing.
-use mathlib.Core.Path.{_≡_, refl, sym, ap, subst, _∙_}
+use mathlib.Core.Path.{_≡_, sym, ap, subst, _∙_}
 use mathlib.Core.Bool.{Bool, true, false, not}
 use mathlib.Core.List.{List}
-use Prim.Native.Nat.{ℕ, _<_}
-use native.Mathlib.Omega.{arith}
-use lib.ListN.{length}
+use Prim.Native.Nat.{ℕ}
+use lib.ListN.{drop}
 use borrow.Author.Needs.{needs}
-use Rattle.link.specs.declared.Event.{Event}
-use Rattle.link.specs.Step as machine
 use Rattle.record.specs.declared.events.Coded.{Coded}
 use Rattle.record.specs.declared.events.Reading.{Reading}
-use Rattle.record.specs.LinkRecord.{linkOf}
-use Rattle.record.specs.Frame.{EV, linkAt, codeAt}
+use Rattle.record.specs.Frame.{EV}
 use Rattle.record.proofs.Frame.{sound}
 use Rattle.record.proofs.EventRecord.{coded, ToldOf, reading-tells}
 use Rattle.sscf.specs.declared.checks.Plan.{Plan}
-use Rattle.sscf.specs.Step.{badTable, recordAt, unknown, said, eventOf, linkChecks, checks}
+use Rattle.sscf.specs.Step.{badTable, unknown, said, checks}
 use Rattle.sscf.specs.Checks.{Check, first}
 use Rattle.sscf.specs.Plan.{Planned}
 use Rattle.sscf.proofs.checks.planned.Statement.{statement}
@@ -25,21 +21,10 @@ code-unknown : (x : Coded) (b : Bool) → coded x ≡ b → unknown x ≡ not b
 code-unknown Coded.Unknown b h = ap not h
 code-unknown (Coded.Of e) b h = ap not h
 
--- past checks 1 to 4 the link's checks decide
-alike : (cs ds : List Check) (k j : ℕ) (o p : machine.Outcome) (r : Plan) → first cs ≡ first ds → k ≡ j → o ≡ p → Planned ds j p r → Planned cs k o r
-alike cs ds k j o p (Plan.Refused x) e f g h = e ∙ h
-alike cs ds k j o p (Plan.Go l next said) e f g h = (e ∙ h .0, h .1 ∙ sym f, g ∙ h .2)
-
-decided : (t e : List ℕ) (room k : ℕ) (x : Event) (r : Plan) → badTable t ≡ false → ToldOf e (Reading.Holds k x) →
-    Planned (linkChecks t k (codeAt e) x room) k (machine.stepOf (linkOf (recordAt t k)) x) r →
-    Planned (checks t e room) (linkAt e) (machine.stepOf (linkOf (recordAt t (linkAt e))) (eventOf e)) r
-decided t e room k x r b h p =
-    let v : eventOf e ≡ x = ap (λ (y : Coded). said y) (h .1) in
-    alike (checks t e room) (linkChecks t k (codeAt e) x room) (linkAt e) k _ _ r
-    (rw (b, h .0, h .1, h .2, h .3))
-    (h .3)
-    (rw (v, h .3))
-    p
+-- past checks 1 to 4 those that are left decide
+left : (cs : List Check) (t e : List ℕ) (r : Plan) → first cs ≡ first (drop 4 cs) → Planned (drop 4 cs) t e r → Planned cs t e r
+left cs t e (Plan.Refused x) h p = h ∙ p
+left cs t e (Plan.Go l next said) h p = (h ∙ p .0, p .1, p .2)
 
 bad-table-requires : tie.Need-bad-table-requires
 bad-table-requires c κs = search needs
@@ -69,11 +54,14 @@ enum-told-3 c = search needs
 enum-known-link : tie.Need-enum-known-link
 enum-known-link c = search needs
 
-shared-slice-read-link-plan : tie.Need-shared-slice-read-link-plan
-shared-slice-read-link-plan c = omega (arith, sound EV _ (told (c .before .before .before .before) _ (c .before .before .link .given .1) .0) .twelve)
+-- the event that was read
+held : (c : tie.After-link) → ToldOf (c .before .before .before .before .before .before .before .args .e .now) (Reading.Holds (c .link .given .0 .0) (c .link .given .0 .1 .0))
+held c = told (c .before .before) _ (c .link .given .1)
 
 link-plan-requires : tie.Need-link-plan-requires
-link-plan-requires c κs = search needs
+link-plan-requires c κs =
+    let h = held (c .before) in
+    (sound EV _ (h .0) .twelve, sym (h .3), sym (ap (λ (y : Coded). said y) (h .1)))
 
 returns-2 : tie.Need-returns-2
 returns-2 c = rw (good (c .before .before .before), told (c .before .before) Reading.BadFrame (c .enum-told .given .1))
@@ -90,8 +78,9 @@ returns-4 c =
 
 returns-5 : tie.Need-returns-5
 returns-5 c =
-    let g = c .before .before .before .link .given in
-    decided (c .before .before .before .before .before .before .before .before .before .before .args .t .now) (c .before .before .before .before .before .before .before .before .before .before .args .e .now) (c .before .before .before .before .before .before .before .before .before .before .args .room) (g .0 .0) (g .0 .1 .0) (c .link-plan .result) (good (c .before .before .before .before .before .before)) (told (c .before .before .before .before .before) _ (g .1)) (c .link-plan .ensures)
+    let a = c .before .before .before .before .before .before .before .before .before .args in
+    let h = held (c .before .before) in
+    left (checks (a .t .now) (a .e .now) (a .room)) (a .t .now) (a .e .now) (c .link-plan .result) (rw (good (c .before .before .before .before .before), h .0, h .1, h .2)) (c .link-plan .ensures)
 
 pub planned-spec : {M : Type 1} → statement M
 planned-spec =
@@ -104,7 +93,6 @@ planned-spec =
     enum-told-2
     enum-told-3
     enum-known-link
-    shared-slice-read-link-plan
     link-plan-requires
     returns-2
     returns-3
