@@ -1,18 +1,38 @@
-# `make`: set-up, proof and library, and a first result to look at. `make test`: the gate.
+# `make`: set-up, proof and library, a first result to look at, and a C program over the library. `make test`: the gate.
+# `make install`: the library for C with its header, below PREFIX; DESTDIR goes before that, for packages.
 .POSIX:
-.PHONY: all setup library look test clean
+.PHONY: all setup library look example install test clean
 
-all: look
+PREFIX = /usr/local
+ARCHIVE = target/staticlib/libsscf.a
+
+all: look example
 
 setup:
 	.ci/setup
 
-# Proves every crate and writes each library to target/rlib/.
+# Proves every crate, writes each library to target/rlib/ and the one for C to target/staticlib/.
 library: setup
 	rt check
+	rt staticlib sscf
 
 look: library
 	examples/wrong-row
+
+example: library
+	host/run host/example.c
+
+$(ARCHIVE):
+	rt staticlib sscf
+
+# The version stands in the header alone.
+install: $(ARCHIVE)
+	install -d '$(DESTDIR)$(PREFIX)/include' '$(DESTDIR)$(PREFIX)/lib/pkgconfig'
+	install -m 644 include/sscf.h '$(DESTDIR)$(PREFIX)/include/sscf.h'
+	install -m 644 $(ARCHIVE) '$(DESTDIR)$(PREFIX)/lib/libsscf.a'
+	version=$$(sed -n 's/^#define SSCF_VERSION "\(.*\)"$$/\1/p' include/sscf.h) && \
+	sed -e 's|@PREFIX@|$(PREFIX)|' -e "s|@VERSION@|$$version|" include/sscf.pc.in | \
+	install -m 644 /dev/stdin '$(DESTDIR)$(PREFIX)/lib/pkgconfig/sscf.pc'
 
 test:
 	.ci/run

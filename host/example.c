@@ -1,0 +1,722 @@
+/*
+ * A host in small: it calls the library as a switch would and checks every octet of what comes
+ * back, where all is well and where it is not. What it expects is written down from Q.2140's
+ * Table 6 and the layouts in sscf.h; nothing of it is taken from the library.
+ */
+#include <sscf.h>
+
+#include <stdio.h>
+#include <string.h>
+
+/* Checks: those that fail are named, the first few of them. */
+
+static unsigned long checks, failures;
+static unsigned long turn; /* which turn of a loop a failure belongs to */
+
+static void check(int ok, const char *what, int line)
+{
+    checks++;
+    if (ok)
+        return;
+    failures++;
+    if (failures <= 20)
+        fprintf(stderr, "example.c:%d: not so: %s (turn %lu)\n", line, what, turn);
+}
+
+#define CHECK(ok) check((ok) != 0, #ok, __LINE__)
+
+/*
+ * The three buffers, with guard octets before and behind each. A call works on `now`. `want` is
+ * what all of it should hold afterwards, so that comparing the two shows any octet that was changed
+ * and should not have been, within a buffer or beside it.
+ */
+enum { GUARD = 64 };
+
+struct memory {
+    uint8_t guard_1[GUARD];
+    uint8_t table[SSCF_TABLE_OCTETS_MAX + SSCF_LINK_OCTETS];
+    uint8_t guard_2[GUARD];
+    uint8_t event[SSCF_HEAD_OCTETS + SSCF_MESSAGE_OCTETS_MAX + 1];
+    uint8_t guard_3[GUARD];
+    uint8_t out[SSCF_OUTPUT_OCTETS];
+    uint8_t guard_4[GUARD];
+};
+
+static struct memory now, want;
+static size_t table_octets, event_octets, out_octets; /* as lent to the library */
+static size_t want_octets, want_signals;              /* as it should answer */
+
+/* Records */
+
+static void put_16(uint8_t *at, size_t value)
+{
+    at[0] = (uint8_t)(value >> 8);
+    at[1] = (uint8_t)value;
+}
+
+/* Three octets as the number they stand for: a REPORT's values, or a number as people write it. */
+static uint32_t three(unsigned first, unsigned second, unsigned third)
+{
+    return (uint32_t)first << 16 | (uint32_t)second << 8 | third;
+}
+
+static size_t put_record(uint8_t *at, const char *mark, unsigned link, unsigned code,
+                         unsigned parameter, uint32_t number, const uint8_t *message, size_t length)
+{
+    memcpy(at, mark, 2);
+    put_16(at + 2, link);
+    at[4] = (uint8_t)code;
+    at[5] = (uint8_t)parameter;
+    at[6] = (uint8_t)(number >> 16);
+    put_16(at + 7, number & 0xffff);
+    at[9] = 0;
+    put_16(at + 10, length);
+    if (length > 0)
+        memcpy(at + SSCF_HEAD_OCTETS, message, length);
+    return SSCF_HEAD_OCTETS + length;
+}
+
+/* A link with nothing forced, no haste and no BSNT. */
+static void put_link(unsigned link, unsigned state, unsigned flags, unsigned timers, unsigned c1,
+                     unsigned n1)
+{
+    uint8_t *record = now.table + SSCF_LINK_OCTETS * link;
+
+    memset(record, 0, SSCF_LINK_OCTETS);
+    memcpy(record, "LK", 2);
+    record[2] = (uint8_t)state;
+    record[3] = (uint8_t)flags;
+    record[6] = (uint8_t)timers;
+    put_16(record + 12, c1);
+    put_16(record + 14, n1);
+}
+
+/* A new table of links out of service, amid octets that the calls must leave alone. */
+static void set_up(unsigned links)
+{
+    static struct memory litter;
+    unsigned link;
+
+    if (litter.guard_1[1] == 0) {
+        size_t i;
+        for (i = 0; i < sizeof litter; i++)
+            ((uint8_t *)&litter)[i] = (uint8_t)(i * 7 + 1);
+    }
+    now = litter;
+    table_octets = SSCF_LINK_OCTETS * links;
+    out_octets = SSCF_OUTPUT_OCTETS;
+    for (link = 0; link < links; link++)
+        put_link(link, SSCF_STATE_1_1_1, 0, 0, 0, SSCF_N1_DEFAULT);
+}
+
+/* What is expected: until told otherwise, that nothing is written and nothing changes. */
+
+static void want_nothing(void)
+{
+    want = now;
+    want_octets = 0;
+    want_signals = 0;
+}
+
+static void put_event(unsigned link, unsigned code, unsigned parameter, uint32_t number,
+                      const uint8_t *message, size_t length)
+{
+    event_octets = put_record(now.event, "EV", link, code, parameter, number, message, length);
+    want_nothing();
+}
+
+static void put_bare_event(unsigned link, unsigned code)
+{
+    put_event(link, code, 0, 0, NULL, 0);
+}
+
+static void want_signal(unsigned link, unsigned code, unsigned parameter, uint32_t number,
+                        const uint8_t *message, size_t length)
+{
+    want_octets += put_record(want.out + want_octets, "SG", link, code, parameter, number, message,
+                              length);
+    want_signals++;
+}
+
+static void want_bare_signal(unsigned link, unsigned code)
+{
+    want_signal(link, code, 0, 0, NULL, 0);
+}
+
+static void want_report(unsigned link, unsigned lower, unsigned upper, unsigned reason)
+{
+    want_signal(link, SSCF_SIGNAL_REPORT, 0, three(lower, upper, reason), NULL, 0);
+}
+
+static void want_link(unsigned link, unsigned state, unsigned flags, unsigned timers, unsigned c1)
+{
+    uint8_t *record = want.table + SSCF_LINK_OCTETS * link;
+
+    record[2] = (uint8_t)state;
+    record[3] = (uint8_t)flags;
+    record[6] = (uint8_t)timers;
+    put_16(record + 12, c1);
+}
+
+static void want_bsnt(unsigned link, uint32_t number)
+{
+    uint8_t *record = want.table + SSCF_LINK_OCTETS * link;
+
+    record[7] = 1;
+    record[8] = (uint8_t)(number >> 16);
+    put_16(record + 9, number & 0xffff);
+}
+
+/* The calls. A buffer of no octets is lent as a null pointer. */
+
+static uint8_t *lent(uint8_t *buffer, size_t octets)
+{
+    return octets == 0 ? NULL : buffer;
+}
+
+static void step_is(uint32_t refusal, int line)
+{
+    struct sscf_answer answer =
+        sscf_step(lent(now.table, table_octets), table_octets, lent(now.event, event_octets),
+                  event_octets, lent(now.out, out_octets), out_octets);
+
+    check(answer.refusal == refusal, "the refusal is the one expected", line);
+    check(answer.octets == want_octets, "the octets are those expected", line);
+    check(answer.signals == want_signals, "the signals are those expected", line);
+    check(memcmp(&now, &want, sizeof now) == 0, "the buffers are as expected", line);
+}
+
+static void fresh_is(size_t octets, unsigned n1, uint32_t refusal, int line)
+{
+    uint32_t answer = sscf_fresh(lent(now.table, octets), octets, (uint16_t)n1);
+
+    check(answer == refusal, "the refusal is the one expected", line);
+    check(memcmp(&now, &want, sizeof now) == 0, "the buffers are as expected", line);
+}
+
+#define STEP(refusal) step_is((refusal), __LINE__)
+#define FRESH(octets, n1, refusal) fresh_is((octets), (n1), (refusal), __LINE__)
+
+static const uint8_t nm_unit[SSCF_UNIT_OCTETS] = {0, 0, 0, SSCF_STATUS_NM};
+static const uint8_t ins_unit[SSCF_UNIT_OCTETS] = {0, 0, 0, SSCF_STATUS_INS};
+static uint8_t message[SSCF_MESSAGE_OCTETS_MAX];
+
+enum { T1 = SSCF_TIMER_T1, T2 = SSCF_TIMER_T2, T3 = SSCF_TIMER_T3 };
+
+/* sscf_fresh: as many octets as were lent, and no other. */
+static void fresh_tables(void)
+{
+    static const uint8_t record[16] = {'L', 'K', 1, 0, 0, 0, 0, 0, 0, 0, 0, 0, 0, 0, 0x03, 0xe8};
+    size_t links;
+
+    for (links = 1; links <= SSCF_LINKS_MAX; links++) {
+        size_t i;
+        turn = links;
+        set_up(0);
+        want_nothing();
+        for (i = 0; i < links; i++)
+            memcpy(want.table + 16 * i, record, 16);
+        FRESH(16 * links, 1000, 0);
+    }
+    want.table[14] = want.table[15] = 0xff;
+    FRESH(16, 0xffff, 0);
+}
+
+static void fresh_refusals(void)
+{
+    set_up(0);
+    want_nothing();
+    FRESH(0, 1000, 1);
+    FRESH(15, 1000, 1);
+    FRESH(17, 1000, 1);
+    FRESH(4097, 1000, 1);
+    FRESH(4112, 1000, 1);
+    FRESH(16, 0, 4);
+    FRESH(4096, 0, 4);
+    FRESH(0, 0, 1);
+    FRESH(4112, 0, 1);
+}
+
+/* The first use in sscf.h, as it stands there. */
+static void first_use(void)
+{
+    uint8_t table[4 * SSCF_LINK_OCTETS];
+    uint8_t out[SSCF_OUTPUT_OCTETS];
+    uint8_t start[SSCF_HEAD_OCTETS] = {'E', 'V', 0, 2, SSCF_EVENT_START};
+    const uint8_t *signal = out;
+    static const uint8_t codes[3] = {SSCF_SIGNAL_ESTABLISH_REQUEST, SSCF_SIGNAL_REPORT,
+                                     SSCF_SIGNAL_SET_T2};
+    struct sscf_answer answer;
+    uint32_t n;
+
+    CHECK(sscf_fresh(table, sizeof table, SSCF_N1_DEFAULT) == SSCF_ACCEPTED);
+    answer = sscf_step(table, sizeof table, start, sizeof start, out, sizeof out);
+    CHECK(answer.refusal == SSCF_ACCEPTED);
+    CHECK(answer.octets == 36);
+    CHECK(answer.signals == 3);
+    for (n = 0; n < answer.signals && n < 3; n++) {
+        size_t length = (size_t)signal[10] << 8 | signal[11];
+        turn = n;
+        CHECK(signal[4] == codes[n]);
+        signal += SSCF_HEAD_OCTETS + length;
+    }
+}
+
+/* The run that document 01 prints in whole: the last proving unit, then the INS unit where the
+ * peer's has come already. In its numbers and not by name, so that the names are checked too. */
+static void into_service(void)
+{
+    set_up(1);
+    put_link(0, 6, 1, 2 + 4, 1, 1000);
+
+    put_bare_event(0, 50);
+    want_link(0, 6, 1, 2 + 4, 0);
+    want_signal(0, 19, 0, 0, nm_unit, 4);
+    want_signal(0, 50, 0, 0, NULL, 0);
+    STEP(0);
+
+    put_bare_event(0, 50);
+    want_link(0, 8, 1, 0, 0);
+    want_signal(0, 33, 0, 0, NULL, 0);
+    want_signal(0, 19, 0, 0, ins_unit, 4);
+    want_signal(0, 34, 0, three(0, 2, 0), NULL, 0);
+    want_signal(0, 4, 0, 0, NULL, 0);
+    want_signal(0, 57, 0, 0, NULL, 0);
+    STEP(0);
+}
+
+/* One life of link 1 among three. Links 0 and 2 must stay as they are, and that their records are
+ * ill-formed is no concern of link 1. */
+
+static void aligns(void)
+{
+    put_bare_event(1, SSCF_EVENT_START);
+    want_link(1, SSCF_STATE_2_2_2, 0, T2, 0);
+    want_signal(1, SSCF_SIGNAL_ESTABLISH_REQUEST, SSCF_STATUS_NM, 0, NULL, 0);
+    want_report(1, 0, SSCF_REPORT_UPPER_ALN, 0);
+    want_bare_signal(1, SSCF_SIGNAL_SET_T2);
+    STEP(SSCF_ACCEPTED);
+
+    /* the peer is not ready yet */
+    put_event(1, SSCF_EVENT_RELEASE_INDICATION, SSCF_STATUS_OOS, SSCF_SOURCE_USER, NULL, 0);
+    want_link(1, SSCF_STATE_2_1_2, 0, T1 + T2, 0);
+    want_signal(1, SSCF_SIGNAL_REPORT, SSCF_STATUS_OOS,
+                three(SSCF_REPORT_LOWER_RR, 0, SSCF_REPORT_REASON_SSCOP_UU), NULL, 0);
+    want_bare_signal(1, SSCF_SIGNAL_SET_T1);
+    STEP(SSCF_ACCEPTED);
+
+    put_bare_event(1, SSCF_EVENT_T1_EXPIRED);
+    want_link(1, SSCF_STATE_2_2_2, 0, T2, 0);
+    want_signal(1, SSCF_SIGNAL_ESTABLISH_REQUEST, SSCF_STATUS_NM, 0, NULL, 0);
+    STEP(SSCF_ACCEPTED);
+
+    put_event(1, SSCF_EVENT_ESTABLISH_CONFIRM, SSCF_STATUS_NM, 0, NULL, 0);
+    want_link(1, SSCF_STATE_2_10_3, 0, T2 + T3, 1000);
+    want_bare_signal(1, SSCF_SIGNAL_START_PROVING);
+    want_bare_signal(1, SSCF_SIGNAL_SET_T3);
+    STEP(SSCF_ACCEPTED);
+}
+
+static void proves(void)
+{
+    unsigned left;
+
+    /* a thousand units, neither 999 nor 1001 */
+    for (left = 1000; left > 0; left--) {
+        turn = left;
+        put_bare_event(1, SSCF_EVENT_T3_EXPIRED);
+        want_link(1, SSCF_STATE_2_10_3, 0, T2 + T3, left - 1);
+        want_signal(1, SSCF_SIGNAL_DATA_REQUEST, 0, 0, nm_unit, sizeof nm_unit);
+        want_bare_signal(1, SSCF_SIGNAL_SET_T3);
+        STEP(SSCF_ACCEPTED);
+    }
+    put_bare_event(1, SSCF_EVENT_T3_EXPIRED);
+    want_link(1, SSCF_STATE_2_10_4, 0, T2, 0);
+    want_bare_signal(1, SSCF_SIGNAL_STOP_PROVING);
+    want_signal(1, SSCF_SIGNAL_DATA_REQUEST, 0, 0, ins_unit, sizeof ins_unit);
+    STEP(SSCF_ACCEPTED);
+
+    /* the peer still proves, then says that it is ready; here the cell has REPORT second */
+    put_event(1, SSCF_EVENT_DATA, 0, 998, nm_unit, sizeof nm_unit);
+    want_bsnt(1, 998);
+    STEP(SSCF_ACCEPTED);
+    put_event(1, SSCF_EVENT_DATA, 0, 999, ins_unit, sizeof ins_unit);
+    want_link(1, SSCF_STATE_3_10_5, 0, 0, 0);
+    want_bsnt(1, 999);
+    want_bare_signal(1, SSCF_SIGNAL_IN_SERVICE);
+    want_report(1, 0, SSCF_REPORT_UPPER_INS, 0);
+    want_bare_signal(1, SSCF_SIGNAL_RESET_T2);
+    STEP(SSCF_ACCEPTED);
+}
+
+/* Out of service, the user fetches what it needs for a changeover. */
+static void is_lost(void)
+{
+    const uint32_t bsnt = three(0x12, 0x34, 0x56), fsnc = three(0xab, 0xcd, 0xef);
+
+    put_event(1, SSCF_EVENT_DATA, 0, bsnt, message, 4096);
+    want_bsnt(1, bsnt);
+    want_signal(1, SSCF_SIGNAL_RECEIVED_MESSAGE, 0, 0, message, 4096);
+    STEP(SSCF_ACCEPTED);
+
+    put_event(1, SSCF_EVENT_RELEASE_INDICATION, 0, SSCF_SOURCE_SSCOP, NULL, 0);
+    want_link(1, SSCF_STATE_1_1_1, 0, 0, 0);
+    want_bare_signal(1, SSCF_SIGNAL_OUT_OF_SERVICE);
+    want_report(1, SSCF_REPORT_LOWER_SR, SSCF_REPORT_UPPER_OOS, 0);
+    STEP(SSCF_ACCEPTED);
+
+    put_bare_event(1, SSCF_EVENT_RETRIEVE_BSNT);
+    want_signal(1, SSCF_SIGNAL_BSNT, 0, bsnt, NULL, 0);
+    STEP(SSCF_ACCEPTED);
+    put_event(1, SSCF_EVENT_RETRIEVAL_REQUEST_AND_FSNC, 0, fsnc, NULL, 0);
+    want_signal(1, SSCF_SIGNAL_RETRIEVE_REQUEST, 0, fsnc, NULL, 0);
+    STEP(SSCF_ACCEPTED);
+    put_event(1, SSCF_EVENT_RETRIEVE, 0, 0, message, 5);
+    want_signal(1, SSCF_SIGNAL_RETRIEVED_MESSAGES, 0, 0, message, 5);
+    STEP(SSCF_ACCEPTED);
+    put_event(1, SSCF_EVENT_RETRIEVE, 0, 0, nm_unit, sizeof nm_unit); /* never the user's */
+    STEP(SSCF_ACCEPTED);
+    put_bare_event(1, SSCF_EVENT_RETRIEVE_COMPLETE);
+    want_bare_signal(1, SSCF_SIGNAL_RETRIEVAL_COMPLETE);
+    STEP(SSCF_ACCEPTED);
+}
+
+static void one_life(void)
+{
+    set_up(3);
+    put_link(0, 0, 0, 0, 0, 1000);
+    put_link(2, SSCF_STATE_3_10_5, 0, 0, 0, 0);
+    aligns();
+    proves();
+    is_lost();
+
+    put_bare_event(0, SSCF_EVENT_START);
+    STEP(SSCF_REFUSED_RECORD);
+    put_bare_event(2, SSCF_EVENT_STOP);
+    STEP(SSCF_REFUSED_RECORD);
+}
+
+/* Messages in service: not looked at, whatever their length, and never more than they are. */
+static void messages(void)
+{
+    static const size_t lengths[] = {5, 273, 4096};
+    size_t i;
+
+    set_up(3);
+    put_link(1, SSCF_STATE_3_10_5, SSCF_FLAG_INS, 0, 0, 1000);
+    for (i = 0; i < 3; i++) {
+        turn = i;
+        put_event(1, SSCF_EVENT_MESSAGE_FOR_TRANSMISSION, 0, 0, message, lengths[i]);
+        want_signal(1, SSCF_SIGNAL_DATA_REQUEST, 0, 0, message, lengths[i]);
+        want_report(1, 0, 0, SSCF_REPORT_REASON_PDUT);
+        STEP(SSCF_ACCEPTED);
+
+        put_event(1, SSCF_EVENT_DATA, 0, 0xffffff, message, lengths[i]);
+        want_bsnt(1, 0xffffff);
+        want_signal(1, SSCF_SIGNAL_RECEIVED_MESSAGE, 0, 0, message, lengths[i]);
+        STEP(SSCF_ACCEPTED);
+    }
+    /* what is no message and no unit that counts is dropped, but for its number */
+    for (i = 0; i <= SSCF_UNIT_OCTETS; i++) {
+        static const uint8_t unknown[SSCF_UNIT_OCTETS] = {0, 0, 0, 6};
+        turn = i;
+        put_event(1, SSCF_EVENT_DATA, 0, (uint32_t)i, unknown, i);
+        want_bsnt(1, (uint32_t)i);
+        STEP(SSCF_ACCEPTED);
+    }
+}
+
+/* Resets come before sets and T1 before T2 and T3, whatever the order in the printed cell; and the
+ * INS flag of an earlier connection is forgotten when a new one comes up. */
+static void timer_orders(void)
+{
+    set_up(1);
+    put_link(0, SSCF_STATE_2_1_2, SSCF_FLAG_INS, T1 + T2, 7, 1000);
+    put_event(0, SSCF_EVENT_ESTABLISH_INDICATION, SSCF_STATUS_EM, 0, NULL, 0);
+    want_link(0, SSCF_STATE_2_10_3, 0, T2 + T3, 0);
+    want_signal(0, SSCF_SIGNAL_ESTABLISH_RESPONSE, SSCF_STATUS_NM, 0, NULL, 0);
+    want_bare_signal(0, SSCF_SIGNAL_START_PROVING);
+    want_bare_signal(0, SSCF_SIGNAL_RESET_T1);
+    want_bare_signal(0, SSCF_SIGNAL_SET_T3);
+    STEP(SSCF_ACCEPTED);
+
+    put_event(0, SSCF_EVENT_RELEASE_INDICATION, SSCF_STATUS_PO, SSCF_SOURCE_SSCOP, NULL, 0);
+    want_link(0, SSCF_STATE_2_1_2, 0, T1 + T2, 0);
+    want_report(0, SSCF_REPORT_LOWER_SR, 0, 0);
+    want_bare_signal(0, SSCF_SIGNAL_STOP_PROVING);
+    want_bare_signal(0, SSCF_SIGNAL_RESET_T3);
+    want_bare_signal(0, SSCF_SIGNAL_SET_T1);
+    STEP(SSCF_ACCEPTED);
+
+    put_bare_event(0, SSCF_EVENT_STOP);
+    want_link(0, SSCF_STATE_1_1_1, 0, 0, 0);
+    want_report(0, 0, SSCF_REPORT_UPPER_OOS, 0);
+    want_bare_signal(0, SSCF_SIGNAL_RESET_T1);
+    want_bare_signal(0, SSCF_SIGNAL_RESET_T2);
+    STEP(SSCF_ACCEPTED);
+}
+
+/* How many units a connection sends (Table 7), and what the peer is told (Table 8). */
+static void haste(void)
+{
+    unsigned mps, ups, peer;
+
+    for (mps = 0; mps <= 2; mps++)
+        for (ups = 0; ups <= 1; ups++)
+            for (peer = SSCF_STATUS_NM; peer <= SSCF_STATUS_EM; peer++) {
+                int no_haste = ups == SSCF_UPS_NORMAL && peer == SSCF_STATUS_NM;
+                int all = mps == SSCF_MPS_NORMAL || (mps == SSCF_MPS_NEUTRAL && no_haste);
+                int told_em = mps == SSCF_MPS_EMERGENCY || (mps == SSCF_MPS_NEUTRAL && ups == 1);
+
+                turn = 100 * mps + 10 * ups + peer;
+                set_up(1);
+                now.table[4] = (uint8_t)mps;
+                now.table[5] = (uint8_t)ups;
+                put_bare_event(0, SSCF_EVENT_START);
+                want_link(0, SSCF_STATE_2_2_2, 0, T2, 0);
+                want_signal(0, SSCF_SIGNAL_ESTABLISH_REQUEST,
+                            told_em ? SSCF_STATUS_EM : SSCF_STATUS_NM, 0, NULL, 0);
+                want_report(0, 0, SSCF_REPORT_UPPER_ALN, 0);
+                want_bare_signal(0, SSCF_SIGNAL_SET_T2);
+                STEP(SSCF_ACCEPTED);
+
+                put_event(0, SSCF_EVENT_ESTABLISH_CONFIRM, peer, 0, NULL, 0);
+                want_link(0, SSCF_STATE_2_10_3, 0, T2 + T3, all ? 1000 : 0);
+                want_bare_signal(0, SSCF_SIGNAL_START_PROVING);
+                want_bare_signal(0, SSCF_SIGNAL_SET_T3);
+                STEP(SSCF_ACCEPTED);
+            }
+}
+
+/* Refusals 1, 5 and 9: the buffers' lengths and the link. */
+static void broken_lengths(void)
+{
+    static const size_t tables[] = {0, 1, 15, 17, 4095, 4097, 4112};
+    size_t i;
+
+    set_up(SSCF_LINKS_MAX);
+    put_bare_event(255, SSCF_EVENT_EMERGENCY);
+    want.table[255 * SSCF_LINK_OCTETS + 5] = SSCF_UPS_EMERGENCY;
+    STEP(SSCF_ACCEPTED);
+    for (i = 0; i < sizeof tables / sizeof *tables; i++) {
+        turn = i;
+        table_octets = tables[i];
+        STEP(SSCF_REFUSED_TABLE);
+    }
+    table_octets = 255 * SSCF_LINK_OCTETS;
+    STEP(SSCF_REFUSED_LINK);
+    table_octets = SSCF_TABLE_OCTETS_MAX;
+    put_bare_event(256, SSCF_EVENT_CONTINUE);
+    STEP(SSCF_REFUSED_LINK);
+    put_bare_event(0xffff, SSCF_EVENT_CONTINUE);
+    STEP(SSCF_REFUSED_LINK);
+
+    /* room is asked for also where nothing would be written */
+    put_bare_event(0, SSCF_EVENT_CONTINUE);
+    out_octets = 0;
+    STEP(SSCF_REFUSED_OUTPUT);
+    out_octets = 4191;
+    STEP(SSCF_REFUSED_OUTPUT);
+    out_octets = 4192;
+    STEP(SSCF_ACCEPTED);
+}
+
+/* Refusal 2. The event would be accepted if its frame were sound. */
+static void broken_frames(void)
+{
+    static const struct {
+        uint8_t at, value; /* an octet of the head to write over */
+        uint16_t length;   /* of the message as the head says */
+        uint16_t octets;   /* lent */
+    } frames[] = {
+        {0, 'E', 0, 0},    {0, 'E', 0, 1},       {0, 'E', 0, 11},      {0, 'S', 0, 12},
+        {0, 'L', 0, 12},   {1, 'G', 0, 12},      {1, 'v', 0, 12},      {9, 1, 0, 12},
+        {9, 255, 0, 12},   {0, 'E', 1, 12},      {0, 'E', 0, 13},      {0, 'E', 10, 21},
+        {0, 'E', 10, 23},  {0, 'E', 256, 13},    {0, 'E', 4096, 4107}, {0, 'E', 4096, 4109},
+        {0, 'E', 4097, 12 + 4097},               {0, 'E', 0xffff, 12}
+    };
+    size_t i;
+
+    for (i = 0; i < sizeof frames / sizeof *frames; i++) {
+        turn = i;
+        set_up(1);
+        put_bare_event(0, SSCF_EVENT_UNITDATA);
+        now.event[frames[i].at] = frames[i].value;
+        put_16(now.event + 10, frames[i].length);
+        event_octets = frames[i].octets;
+        want_nothing();
+        STEP(SSCF_REFUSED_FRAME);
+    }
+}
+
+/* What may stand in an event of each code. */
+
+static int known(unsigned code)
+{
+    return (code >= 1 && code <= 9) || (code >= 16 && code <= 25) || (code >= 32 && code <= 40) ||
+           (code >= 48 && code <= 50);
+}
+
+static int carried(unsigned code, unsigned parameter, uint32_t number, size_t length)
+{
+    int status = parameter <= 10 && parameter != 6;
+    int parameter_fits = code >= 16 && code <= 18 ? status
+                         : code == 39             ? parameter <= 3
+                                                  : parameter == 0;
+    int number_fits = code == 7 || code == 20 || number <= (code == 18 ? 1 : 0);
+    int length_fits = code == 1 ? length >= 5
+                                : code == 20 || code == 23 || code == 24 || length == 0;
+
+    return parameter_fits && number_fits && length_fits;
+}
+
+/* Refusals 3 and 4, for every code. The link is one too high, so that a sound event is refused too,
+ * by 5 and whatever the state. */
+static void fields_are(unsigned code, unsigned parameter, uint32_t number, size_t length)
+{
+    put_event(1, code, parameter, number, message, length);
+    STEP(!known(code)                                 ? SSCF_REFUSED_CODE
+         : !carried(code, parameter, number, length) ? SSCF_REFUSED_FIELD
+                                                      : SSCF_REFUSED_LINK);
+}
+
+static void broken_fields(void)
+{
+    static const uint32_t numbers[] = {1, 2, 0x000100, 0x010000, 0xffffff};
+    static const size_t lengths[] = {1, 3, 4, 5, 4096};
+    unsigned code, i;
+
+    set_up(1);
+    for (code = 0; code < 256; code++) {
+        const size_t least = code == 1 ? 5 : 0;
+        turn = code;
+        for (i = 0; i <= 16; i++)
+            fields_are(code, i, 0, least);
+        fields_are(code, 255, 0, least);
+        for (i = 0; i < 5; i++) {
+            fields_are(code, 0, numbers[i], least);
+            fields_are(code, 0, 0, lengths[i]);
+        }
+    }
+    fields_are(1, 0, 0, 0);
+}
+
+/* Refusal 6, by every value of every octet of a record. */
+
+static int well_formed(const uint8_t *record)
+{
+    int bsnt = record[8] != 0 || record[9] != 0 || record[10] != 0;
+
+    return record[0] == 'L' && record[1] == 'K' && record[2] >= 1 && record[2] <= 8 &&
+           record[3] <= 3 && record[4] <= 2 && record[5] <= 1 && record[6] <= 7 && record[7] <= 1 &&
+           (record[7] == 1 || !bsnt) && record[11] == 0 && (record[14] != 0 || record[15] != 0);
+}
+
+static void broken_records(void)
+{
+    unsigned known_bsnt, octet, value;
+
+    for (known_bsnt = 0; known_bsnt <= 1; known_bsnt++)
+        for (octet = 0; octet < SSCF_LINK_OCTETS; octet++)
+            for (value = 0; value < 256; value++) {
+                uint8_t *record = now.table + SSCF_LINK_OCTETS;
+                turn = 1000 * octet + value;
+                set_up(3);
+                put_link(1, SSCF_STATE_2_10_4, 3, T2, 2, 1);
+                record[7] = record[10] = (uint8_t)known_bsnt;
+                record[octet] = (uint8_t)value;
+                put_bare_event(1, SSCF_EVENT_FLUSH_BUFFERS); /* ignored in every state */
+                STEP(well_formed(record) ? SSCF_ACCEPTED : SSCF_REFUSED_RECORD);
+            }
+}
+
+/* Refusals 7 and 8: every event in every state, each timer running or not. The states are those
+ * listed in sscf.h beside each event. */
+static void states(void)
+{
+    static const struct {
+        uint8_t first, last; /* codes */
+        const char *legal;
+    } rows[] = {
+        {1, 1, ".......8"},   {2, 3, "1234567."},   {4, 4, "..345678"},   {5, 7, "12......"},
+        {8, 9, "12345678"},   {16, 16, "1.3....."}, {17, 17, "...4...."}, {18, 18, "...4.678"},
+        {19, 19, ".2..5..."}, {20, 22, ".....678"}, {23, 23, "12345678"}, {24, 25, "12......"},
+        {32, 32, ".....6.."}, {33, 34, "12345678"}, {35, 35, "123456.."}, {36, 39, "12345678"},
+        {40, 40, "12345.78"}, {48, 48, "..3....."}, {49, 49, "..34567."}, {50, 50, ".....6.."}
+    };
+    unsigned row, code, state, timers;
+
+    for (row = 0; row < sizeof rows / sizeof *rows; row++)
+        for (code = rows[row].first; code <= rows[row].last; code++)
+            for (state = 1; state <= 8; state++)
+                for (timers = 0; timers <= 7; timers++) {
+                    int stopped = code >= 48 && (timers >> (code - 48) & 1) == 0;
+                    int illegal = rows[row].legal[state - 1] == '.';
+                    uint32_t refusal = stopped ? 7 : illegal ? 8 : 0;
+
+                    turn = 1000 * code + 10 * state + timers;
+                    set_up(1);
+                    put_link(0, state, 0, timers, timers & 1, 1);
+                    put_event(0, code, 0, 0, message, code == 1 ? 5 : 0);
+                    if (refusal != 0)
+                        STEP(refusal);
+                    else
+                        CHECK(sscf_step(now.table, 16, now.event, event_octets, now.out, out_octets)
+                                  .refusal == SSCF_ACCEPTED);
+                }
+}
+
+/* Several things wrong at once, in each of the 511 ways: the lowest number is answered. */
+static void several_wrong(void)
+{
+    uint8_t *record = now.table + SSCF_LINK_OCTETS;
+    unsigned wrong, lowest;
+
+    for (wrong = 1; wrong < 1u << 9; wrong++) {
+        turn = wrong;
+        set_up(3);
+        put_link(1, SSCF_STATE_2_10_3, 0, T2 + T3, 5, 1000);
+        put_bare_event(1, SSCF_EVENT_T3_EXPIRED);
+        if (wrong & 1u << 0)
+            table_octets--;
+        if (wrong & 1u << 1)
+            now.event[9] = 1;
+        if (wrong & 1u << 2)
+            now.event[4] = 51;
+        if (wrong & 1u << 3)
+            now.event[5] = 1;
+        if (wrong & 1u << 4)
+            now.event[3] = 3;
+        if (wrong & 1u << 5)
+            record[0] = 'X';
+        if (wrong & 1u << 6)
+            record[6] = T2;
+        if (wrong & 1u << 7)
+            record[2] = SSCF_STATE_1_1_1;
+        if (wrong & 1u << 8)
+            out_octets = 4191;
+        for (lowest = 1; (wrong >> (lowest - 1) & 1) == 0; lowest++)
+            ;
+        want_nothing();
+        STEP(lowest);
+    }
+}
+
+int main(void)
+{
+    static void (*const parts[])(void) = {
+        fresh_tables,   fresh_refusals, first_use,     into_service,   one_life,
+        messages,       timer_orders,   haste,         broken_lengths, broken_frames,
+        broken_fields,  broken_records, states,        several_wrong
+    };
+    size_t i;
+
+    for (i = 0; i < sizeof message; i++)
+        message[i] = (uint8_t)(i * 13 + 5);
+    for (i = 0; i < sizeof parts / sizeof *parts; i++) {
+        turn = 0;
+        parts[i]();
+    }
+    printf("example: %lu checks, %lu failed\n", checks, failures);
+    return failures == 0 ? 0 : 1;
+}

@@ -1,0 +1,389 @@
+/*
+ * sscf.h: signalling links over ATM, the SSCF at the NNI of ITU-T Q.2140 (02/95).
+ *
+ * WHAT IT IS
+ *
+ * The SSCF stands between the user of a signalling link (MTP level 3) and SSCOP. It brings the link
+ * into service and takes it out again: connection, proving, and the exchange of INS units with the
+ * peer. This library is the SSCF for a table of 1 to 256 links, in two calls:
+ *
+ *     sscf_fresh    makes a table in which every link is out of service
+ *     sscf_step     takes one event for one link, brings that link's record in the table up to
+ *                   date, and writes the signals that follow from the event
+ *
+ * The host hands in as an event whatever the link's user, SSCOP, layer management or a timer has
+ * to say, and hands the signals on to those they are for. SSCOP itself, the clocks, the monitoring
+ * of errors during proving and the detection of congestion are the host's.
+ *
+ * The library is for x86-64 Linux. It allocates nothing, keeps nothing between calls and calls
+ * nothing back; every call returns, whatever octets it is given. All it knows of the links stands
+ * in the table, which is the host's: it may be copied, stored and carried to another process.
+ * What the two calls promise, at the end of this header, is proved of the code, for every table
+ * and every event.
+ *
+ * HOW A LINK COMES INTO SERVICE
+ *
+ * START has SSCOP establish a connection (state 4) and sets T2. Once SSCOP confirms it the link is
+ * proving (state 6): at each expiry of T3 it sends a proving unit, as many as were decided when the
+ * connection came up, and at the expiry after these its INS unit. If the peer's INS unit has come
+ * by then the link is in service (state 8), else it waits for it (state 7). A connection that fails
+ * on the way is tried again after T1 (state 3), unless the peer connects first; when T2 expires the
+ * link is given up. A link that was given up, was stopped or has left service is out of service
+ * (state 1, or 2 while SSCOP has still to confirm a release) until the next START.
+ *
+ * A link is in service in state 8 and in no other. The user is told by IN_SERVICE and
+ * OUT_OF_SERVICE; its own STOP, once accepted, takes the link out of service with no
+ * OUT_OF_SERVICE to follow.
+ *
+ * A FIRST USE
+ *
+ *     uint8_t table[4 * SSCF_LINK_OCTETS];
+ *     uint8_t out[SSCF_OUTPUT_OCTETS];
+ *     uint8_t start[SSCF_HEAD_OCTETS] = {'E', 'V', 0, 2, SSCF_EVENT_START};
+ *     struct sscf_answer answer;
+ *
+ *     sscf_fresh(table, sizeof table, SSCF_N1_DEFAULT);
+ *     answer = sscf_step(table, sizeof table, start, sizeof start, out, sizeof out);
+ *
+ * starts link 2 of four. The answer is {0, 36, 3}: accepted, and three signals in the first 36
+ * octets of out, which are ESTABLISH_REQUEST for SSCOP, a REPORT for layer management and SET_T2.
+ * They are taken one behind the other:
+ *
+ *     const uint8_t *signal = out;
+ *     uint32_t n;
+ *
+ *     for (n = 0; n < answer.signals; n++) {
+ *         size_t length = (size_t)signal[10] << 8 | signal[11];
+ *         hand_on(signal, length);
+ *         signal += SSCF_HEAD_OCTETS + length;
+ *     }
+ *
+ * WHAT THE HOST SEES TO
+ *
+ * These are the only things that the library cannot test.
+ *
+ * - Each pointer is good for as many octets as the length beside it says, the table and the output
+ *   for writing too. A length of 0 may come with any pointer, NULL among them: nothing is read or
+ *   written through it.
+ * - The table, the event and the output do not overlap.
+ * - Nobody else touches the three buffers during a call. There is no locking and no global state:
+ *   calls on one table come one at a time, calls on different tables may run side by side.
+ *
+ * For the links to work as Q.2140 has it, the host also does the following.
+ *
+ * - It hands on every signal, in the order written. An event that arises on the way waits until
+ *   the last signal has been handed on.
+ * - It runs the timers. A set order starts a timer afresh, also where it runs already; a reset
+ *   order stops it. When a timer runs out the host hands in its expiry, which ends the timer's
+ *   running by itself. An expiry that comes after its timer was reset is refused, does no harm and
+ *   can be dropped; one from before a reset must not be handed in after the next set, since nothing
+ *   tells the two apart.
+ * - Nothing but sscf_fresh and sscf_step writes into the table. A record that the host has altered
+ *   is believed if it is well-formed, whatever it says.
+ * - Q.2140 wants no link to enter proving during local congestion. On START_PROVING for a link
+ *   that is congested, hand in CONGESTION for it (again): this gives the connection up, and the
+ *   link tries again after T1.
+ */
+#ifndef SSCF_H
+#define SSCF_H
+
+#include <stddef.h>
+#include <stdint.h>
+
+#ifdef __cplusplus
+extern "C" {
+#endif
+
+#define SSCF_VERSION "0.1.0"
+
+/* LIMITS */
+
+#define SSCF_LINK_OCTETS 16            /* a link record */
+#define SSCF_LINKS_MAX 256             /* links in a table; at least 1 */
+#define SSCF_TABLE_OCTETS_MAX 4096     /* a table, 256 x 16 */
+#define SSCF_HEAD_OCTETS 12            /* an event or a signal without its message */
+#define SSCF_MESSAGE_OCTETS_MAX 4096   /* the message of an event or a signal */
+#define SSCF_USER_MESSAGE_OCTETS_MIN 5 /* the peer takes four or fewer for a unit */
+#define SSCF_UNIT_OCTETS 4             /* an SSCF unit */
+#define SSCF_SIGNALS_MAX 8             /* signals from one event */
+#define SSCF_OUTPUT_OCTETS 4192        /* what a step asks for, 8 x 12 + 4,096; more is fine */
+#define SSCF_N1_DEFAULT 1000           /* proving units of normal proving, Q.2140's default */
+
+/*
+ * LINK RECORD
+ *
+ * A table is its link records one behind the other, link 0 first; link n begins at octet 16 x n.
+ * Octets are counted from 0, and all numbers are big-endian, here and in every record.
+ *
+ *      0-1    "LK"
+ *      2      state, SSCF_STATE_...
+ *      3      flags, a sum of SSCF_FLAG_...
+ *      4      MPS, what management forces, SSCF_MPS_...
+ *      5      UPS, what the user wishes, SSCF_UPS_...
+ *      6      the timers running, a sum of SSCF_TIMER_...
+ *      7      1 if BSNT is known, else 0
+ *      8-10   BSNT, the number of the latest DATA accepted; 0 where not known
+ *      11     0
+ *      12-13  C1, the proving units still to be sent
+ *      14-15  n1, the proving units of normal proving, at least 1
+ *
+ * Anything else is ill-formed. A fresh record has its mark, state 1 and n1, and 0 in every other
+ * octet.
+ */
+
+/* States, by Q.2140's triples: as the user sees the link, as SSCOP does, as management does. */
+enum {
+    SSCF_STATE_1_1_1 = 1,  /* out of service, idle */
+    SSCF_STATE_1_4_1 = 2,  /* out of service, SSCOP still to confirm a release */
+    SSCF_STATE_2_1_2 = 3,  /* alignment, idle until T1 expires or the peer connects */
+    SSCF_STATE_2_2_2 = 4,  /* alignment, SSCOP still to confirm the connection */
+    SSCF_STATE_2_4_2 = 5,  /* alignment, SSCOP still to confirm a release */
+    SSCF_STATE_2_10_3 = 6, /* proving */
+    SSCF_STATE_2_10_4 = 7, /* aligned ready: own INS unit sent, the peer's awaited */
+    SSCF_STATE_3_10_5 = 8  /* in service */
+};
+
+enum {
+    SSCF_FLAG_INS = 1, /* the peer's INS unit came during proving; 0 again with a new connection */
+    SSCF_FLAG_LPO = 2  /* local processor outage */
+};
+
+/*
+ * How many proving units a connection sends is decided once, when it comes up: under MPS_NORMAL
+ * n1, under MPS_EMERGENCY none, under MPS_NEUTRAL n1 if both the user and the peer ask for Normal,
+ * and else none. The peer is told NM or EM by MPS if that forces one of them, and else by UPS.
+ * MPS stays until management changes it; UPS falls back to Normal when the link goes out of
+ * service or the user stops it.
+ */
+enum { SSCF_MPS_NEUTRAL = 0, SSCF_MPS_NORMAL = 1, SSCF_MPS_EMERGENCY = 2 };
+enum { SSCF_UPS_NORMAL = 0, SSCF_UPS_EMERGENCY = 1 };
+
+/* The times are Q.2140's defaults. */
+enum {
+    SSCF_TIMER_T1 = 1, /* from a failed attempt at a connection to the next one: 5 seconds */
+    SSCF_TIMER_T2 = 2, /* all of alignment, until the link is in service or given up: 30 seconds */
+    SSCF_TIMER_T3 = 4  /* between proving units, so that they load the link to about one half */
+};
+
+/*
+ * EVENT AND SIGNAL RECORD
+ *
+ *      0-1    "EV" for an event, "SG" for a signal
+ *      2-3    link, counted from 0
+ *      4      code, SSCF_EVENT_... or SSCF_SIGNAL_...
+ *      5      parameter: a status code or a level
+ *      6-8    number
+ *      9      0
+ *      10-11  length of the message, 0 to 4,096
+ *      12-    the message
+ *
+ * A field that a code does not carry is 0. An event is exactly its 12 octets and its message.
+ */
+
+/*
+ * STATUS CODES
+ *
+ * An SSCF unit is four octets, three reserved and the status. The library writes the reserved
+ * octets 0 and does not look at those it reads. As a message a unit stands in whole. As the
+ * SSCOP-UU field of SSCOP's ESTABLISH and RELEASE it stands in octet 5 by its status alone: of a
+ * signal the host makes the field 0, 0, 0, status; of a field that came it hands in the status, and
+ * 0 where no field came or its status is none of these.
+ */
+enum {
+    SSCF_STATUS_OOS = 1, /* Out of Service */
+    SSCF_STATUS_PO = 2,  /* Processor Outage */
+    SSCF_STATUS_INS = 3, /* In Service */
+    SSCF_STATUS_NM = 4,  /* Normal; as a message, the proving unit */
+    SSCF_STATUS_EM = 5,  /* Emergency */
+    SSCF_STATUS_ANS = 7, /* Alignment Not Successful */
+    SSCF_STATUS_MI = 8,  /* Management Initiated */
+    SSCF_STATUS_PE = 9,  /* Protocol Error */
+    SSCF_STATUS_PNS = 10 /* Proving Not Successful */
+};
+
+/*
+ * EVENTS
+ *
+ * Beside each code stands what the record carries, and the states, by code, in which the event is
+ * accepted; in the others it is Illegal (refusal 8). "field" is a status code or 0, in octet 5.
+ *
+ * The user starts a link (START) and stops it (STOP), asks for proving to be left out (EMERGENCY)
+ * or no longer so (EMERGENCY_CEASES), and sends. For a changeover it asks, out of service, for the
+ * number of the last message received (RETRIEVE_BSNT), and for those of its own messages that the
+ * peer has not accepted, FSNC being the last it has (RETRIEVAL_REQUEST_AND_FSNC).
+ */
+enum {
+    /* From the user. */
+    SSCF_EVENT_MESSAGE_FOR_TRANSMISSION = 1,   /* message, 5 to 4,096 octets      .......8 */
+    SSCF_EVENT_EMERGENCY = 2,                  /*                                 1234567. */
+    SSCF_EVENT_EMERGENCY_CEASES = 3,           /*                                 1234567. */
+    SSCF_EVENT_STOP = 4,                       /*                                 ..345678 */
+    SSCF_EVENT_START = 5,                      /*                                 12...... */
+    SSCF_EVENT_RETRIEVE_BSNT = 6,              /*                                 12...... */
+    SSCF_EVENT_RETRIEVAL_REQUEST_AND_FSNC = 7, /* number: FSNC                    12...... */
+    SSCF_EVENT_FLUSH_BUFFERS = 8,              /* ignored                         12345678 */
+    SSCF_EVENT_CONTINUE = 9,                   /* ignored                         12345678 */
+
+    /* From SSCOP, its AA- signals. DATA of five octets or more is a message for the user, of four a
+     * unit of the peer; shorter ones are dropped, and so are units that come with RETRIEVE. These
+     * are protocol errors, for which the connection is released (PE): ESTABLISH in states 3 and 4
+     * with a field other than NM and EM, a message before service, an INS or NM unit in service,
+     * RESYNC, and RECOVER in state 6. */
+    SSCF_EVENT_ESTABLISH_INDICATION = 16,      /* field                           1.3..... */
+    SSCF_EVENT_ESTABLISH_CONFIRM = 17,         /* field                           ...4.... */
+    SSCF_EVENT_RELEASE_INDICATION = 18,        /* field; number: SSCF_SOURCE_...  ...4.678 */
+    SSCF_EVENT_RELEASE_CONFIRM = 19,           /*                                 .2..5... */
+    SSCF_EVENT_DATA = 20,                      /* message, 0 to 4,096; number: SN .....678 */
+    SSCF_EVENT_RESYNC = 21,                    /*                                 .....678 */
+    SSCF_EVENT_RECOVER = 22,                   /*                                 .....678 */
+    SSCF_EVENT_UNITDATA = 23,                  /* message, 0 to 4,096             12345678 */
+    SSCF_EVENT_RETRIEVE = 24,                  /* message, 0 to 4,096             12...... */
+    SSCF_EVENT_RETRIEVE_COMPLETE = 25,         /*                                 12...... */
+
+    /* From layer management. RELEASE takes the link out of service. OUTAGE does so in states 7 and
+     * 8, and, while it lasts, to a link that ends proving. PROVING_UNSUCCESSFUL, and CONGESTION in
+     * state 6, give up the connection, and the link tries again. FORCE_PROVING sets MPS_NORMAL;
+     * a mode counts from the next connection on. */
+    SSCF_EVENT_PROVING_UNSUCCESSFUL = 32,      /*                                 .....6.. */
+    SSCF_EVENT_RELEASE = 33,                   /*                                 12345678 */
+    SSCF_EVENT_OUTAGE = 34,                    /* local processor outage          12345678 */
+    SSCF_EVENT_RECOVERED = 35,                 /* local processor recovered       123456.. */
+    SSCF_EVENT_FORCE_PROVING = 36,             /*                                 12345678 */
+    SSCF_EVENT_FORCE_EMERGENCY = 37,           /*                                 12345678 */
+    SSCF_EVENT_CLEAR_FORCE_MODES = 38,         /*                                 12345678 */
+    SSCF_EVENT_CONGESTION = 39,                /* level, 0 to 3, in octet 5       12345678 */
+    SSCF_EVENT_CONGESTION_CEASED = 40,         /*                                 12345.78 */
+
+    /* From the host's clocks. The timer must be marked running (refusal 7). */
+    SSCF_EVENT_T1_EXPIRED = 48,                /*                                 ..3..... */
+    SSCF_EVENT_T2_EXPIRED = 49,                /*                                 ..34567. */
+    SSCF_EVENT_T3_EXPIRED = 50                 /*                                 .....6.. */
+};
+
+/* Who released the connection, the number of RELEASE_INDICATION. */
+enum { SSCF_SOURCE_USER = 0, SSCF_SOURCE_SSCOP = 1 };
+
+/*
+ * SIGNALS
+ *
+ * They come in the order of Q.2140's Table 6, the timer orders last: resets before sets, T1 first.
+ * All signals of a step are for the link of its event.
+ */
+enum {
+    /* To the user. */
+    SSCF_SIGNAL_RECEIVED_MESSAGE = 1,      /* message, 5 to 4,096 octets */
+    SSCF_SIGNAL_LINK_CONGESTED = 2,        /* octet 5: the level, 0 to 3 */
+    SSCF_SIGNAL_CONGESTION_CEASED = 3,
+    SSCF_SIGNAL_IN_SERVICE = 4,            /* the link carries messages from here on */
+    SSCF_SIGNAL_OUT_OF_SERVICE = 5,        /* no more until the next IN_SERVICE */
+    SSCF_SIGNAL_RETRIEVED_MESSAGES = 6,    /* message, 5 to 4,096 octets */
+    SSCF_SIGNAL_RETRIEVAL_COMPLETE = 7,
+    SSCF_SIGNAL_BSNT = 8,                  /* number: that of the latest DATA accepted */
+    SSCF_SIGNAL_BSNT_NOT_RETRIEVABLE = 9,  /* there was none */
+
+    /* To SSCOP. Octet 8 of ESTABLISH is the buffer release parameter, 1 for yes, 0 for no. */
+    SSCF_SIGNAL_ESTABLISH_REQUEST = 16,    /* octet 5: NM or EM; octet 8: 0 */
+    SSCF_SIGNAL_ESTABLISH_RESPONSE = 17,   /* octet 5: NM or EM; octet 8: 0 */
+    SSCF_SIGNAL_RELEASE_REQUEST = 18,      /* octet 5: OOS, PO, ANS, MI, PE or PNS */
+    SSCF_SIGNAL_DATA_REQUEST = 19,         /* message: a unit, NM or INS, or the user's message */
+    SSCF_SIGNAL_RECOVER_RESPONSE = 20,
+    SSCF_SIGNAL_RETRIEVE_REQUEST = 21,     /* number: RN, the FSNC of the event */
+
+    /* To layer management, which monitors errors from START_PROVING to STOP_PROVING. Two events in
+     * state 6 end proving with no STOP_PROVING, PROVING_UNSUCCESSFUL and RELEASE: they come from
+     * layer management itself. */
+    SSCF_SIGNAL_START_PROVING = 32,
+    SSCF_SIGNAL_STOP_PROVING = 33,
+    SSCF_SIGNAL_REPORT = 34,               /* octets 6, 7 and 8: SSCF_REPORT_..., see below */
+
+    /* Timer orders. */
+    SSCF_SIGNAL_SET_T1 = 48,
+    SSCF_SIGNAL_SET_T2 = 49,
+    SSCF_SIGNAL_SET_T3 = 50,
+    SSCF_SIGNAL_RESET_T1 = 56,
+    SSCF_SIGNAL_RESET_T2 = 57,
+    SSCF_SIGNAL_RESET_T3 = 58
+};
+
+/* A REPORT has a value in each of octets 6, 7 and 8; 0 is Q.2140's "-", nothing to report. */
+enum {
+    /* octet 6, towards SSCOP */
+    SSCF_REPORT_LOWER_LR = 1,       /* Local Release */
+    SSCF_REPORT_LOWER_RR = 2,       /* Remote Release */
+    SSCF_REPORT_LOWER_SR = 3,       /* SSCOP Release */
+
+    /* octet 7, towards the user */
+    SSCF_REPORT_UPPER_OOS = 1,      /* Out Of Service */
+    SSCF_REPORT_UPPER_INS = 2,      /* In Service */
+    SSCF_REPORT_UPPER_ALN = 3,      /* Alignment */
+
+    /* octet 8, the reason */
+    SSCF_REPORT_REASON_ANS = 1,     /* Alignment Not Successful */
+    SSCF_REPORT_REASON_CC = 2,      /* Congestion Ceased */
+    SSCF_REPORT_REASON_CD = 3,      /* Congestion Detected */
+    SSCF_REPORT_REASON_PE = 4,      /* Protocol Error */
+    SSCF_REPORT_REASON_SREC = 5,    /* SSCOP Recover */
+    SSCF_REPORT_REASON_UDR = 6,     /* UNITDATA Received */
+    SSCF_REPORT_REASON_PDUT = 7,    /* PDU Transmitted */
+    SSCF_REPORT_REASON_SSCOP_UU = 8 /* the peer's reason: its status code stands in octet 5 */
+};
+
+/*
+ * REFUSALS
+ *
+ * Each is given exactly where it is listed, and the checks are made in this order: where several
+ * things are wrong the lowest number is answered.
+ */
+enum {
+    SSCF_ACCEPTED = 0,
+    SSCF_REFUSED_TABLE = 1,  /* table empty, not a multiple of 16 octets, or over 4,096 */
+    SSCF_REFUSED_FRAME = 2,  /* event under 12 octets, its mark not "EV", octet 9 not 0, length
+                                over 4,096 or not equal to the octets that follow */
+    SSCF_REFUSED_CODE = 3,   /* unknown event code */
+    SSCF_REFUSED_FIELD = 4,  /* a field set that the code does not carry (a length above 0 counts as
+                                one), a parameter or source out of range, or a user message under
+                                5 octets */
+    SSCF_REFUSED_LINK = 5,   /* link number not below the number of records */
+    SSCF_REFUSED_RECORD = 6, /* that link's record ill-formed */
+    SSCF_REFUSED_TIMER = 7,  /* expiry of a timer that is not marked running */
+    SSCF_REFUSED_STATE = 8,  /* the event is Illegal in the link's state */
+    SSCF_REFUSED_OUTPUT = 9  /* output shorter than 4,192 octets, whatever the event would write */
+};
+
+/*
+ * Makes a fresh table: every record of the table_octets / 16 becomes out of service, with nothing
+ * forced, no timer running and no BSNT, and n1 proving units for normal proving.
+ *
+ * Answers SSCF_ACCEPTED, or SSCF_REFUSED_TABLE, or else SSCF_REFUSED_FIELD if n1 is 0. A refusal
+ * leaves the table as it was.
+ */
+uint32_t sscf_fresh(uint8_t *table, size_t table_octets, uint16_t n1);
+
+/* What a step answers. */
+struct sscf_answer {
+    uint32_t refusal; /* SSCF_ACCEPTED or SSCF_REFUSED_... */
+    uint32_t octets;  /* octets written to the output, from its beginning; 0 if refused */
+    uint32_t signals; /* signal records in them, one behind the other; 0 if refused */
+};
+
+/*
+ * Takes one event for one link of the table.
+ *
+ * Accepted, it brings the record of that link up to date and writes the signals to the beginning
+ * of out. An accepted event may well have none: octets and signals are then 0. No octet changes
+ * but in that link's record and in the first `octets` octets of out.
+ *
+ * Refused, it answers the number of the refusal, 0 and 0, and no octet of table or out changes: it
+ * is as if the call had not been made.
+ *
+ * The event is only read. What out held before does not matter.
+ */
+struct sscf_answer sscf_step(uint8_t *table, size_t table_octets,
+                             const uint8_t *event, size_t event_octets,
+                             uint8_t *out, size_t out_octets);
+
+#ifdef __cplusplus
+}
+#endif
+
+#endif
