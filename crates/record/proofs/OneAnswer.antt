@@ -4,6 +4,8 @@ use mathlib.Core.List.{List}
 use denote.Ref.{now}
 use Rattle.unit.specs.OneAnswer.{OneReading, OneAnswer}
 use Rattle.unit.proofs.OneAnswer.{equal}
+use Rattle.record.proofs.wide.Kinds as wide-kinds
+use Rattle.record.proofs.wide.Reads as wide
 use Rattle.record.proofs.state_code.Kinds as state-code-kinds
 use Rattle.record.proofs.state_code.Reads as state-code
 use Rattle.record.proofs.pack.Kinds as pack-kinds
@@ -20,6 +22,9 @@ use Rattle.record.proofs.writing.put_at.Kinds as put-at-kinds
 use Rattle.record.proofs.writing.put_at.Reads as put-at
 use Rattle.record.proofs.signals.put_all.Kinds as put-all-kinds
 use Rattle.record.proofs.signals.put_all.Reads as put-all
+
+pub wide-one : OneAnswer wide-kinds.ps wide-kinds.r wide.Post
+wide-one κs arguments x y e f = equal
 
 pub state-code-one : OneAnswer state-code-kinds.ps state-code-kinds.r state-code.Post
 state-code-one κs arguments x y e f = equal

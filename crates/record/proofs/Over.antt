@@ -5,7 +5,7 @@ use Prim.Native.Nat.{ℕ, suc, _+_, _-_, _≤_, _<_}
 use native.Mathlib.Numerals.{add-one}
 use native.Mathlib.Omega.{arith}
 use lib.ListN.{length, take, drop, getD, set, length-append, length-take, length-drop, drop-of-length-le, take-append-drop}
-use lib.Seq.{length-take-le, take-all, take-suc, drop-cons, append-snoc, set-at, take-length, take-append-seam, drop-append-seam, take-append-le, drop-append-le, drop-at, drop-drop}
+use lib.Seq.{length-take-le, take-all, take-suc, drop-cons, append-snoc, set-at, take-length, take-append-seam, drop-append-seam, take-append-le, drop-append-le, take-append-add, drop-append-add, drop-at, drop-drop}
 use Rattle.record.specs.Octets.{over, putAt}
 
 -- a turn of the loop that copies, and its end
@@ -39,6 +39,21 @@ lent d y s a e =
 pub behind : (a b d : List ℕ) → putAt (over a d) (length a) b ≡ over (a ++ b) d
 unfolding over putAt
 behind a b d = simp (take-append-seam, drop-append-seam, drop-drop, length-append, append-assoc)
+
+-- the same from place a on
+behind-front : (p q y : List ℕ) (n : ℕ) → putAt (p ++ q) (length p + n) y ≡ p ++ putAt q n y
+unfolding putAt
+behind-front p q y n =
+    ap (λ (l : List ℕ). l ++ over y (drop (length p + n) (p ++ q))) (take-append-add p q n)
+    ∙ ap (λ (l : List ℕ). (p ++ take n q) ++ over y l) (drop-append-add p q n)
+    ∙ append-assoc p (take n q) (over y (drop n q))
+
+pub put-behind : (d x y : List ℕ) (a : ℕ) → a ≤ length d → putAt (putAt d a x) (a + length x) y ≡ putAt d a (x ++ y)
+unfolding putAt
+put-behind d x y a h =
+    ap (λ (k : ℕ). putAt (take a d ++ over x (drop a d)) (k + length x) y) (sym (length-take-le a d h))
+    ∙ behind-front (take a d) (over x (drop a d)) y (length x)
+    ∙ ap (λ (l : List ℕ). take a d ++ l) (behind x y (drop a d))
 
 pub put-nothing : (d : List ℕ) (a : ℕ) → putAt d a [] ≡ d
 unfolding over putAt

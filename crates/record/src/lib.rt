@@ -24,7 +24,7 @@ pub const RECORD: usize = 16;
 pub const LK: [u8; 2] = *b"LK";
 
 // Two octets as a number, the higher first.
-fn wide(a: u8, b: u8) -> u16
+pub fn wide(a: u8, b: u8) -> u16
     ensures { λ r. ⌜ r ≡ two a b ⌝ }
 {
     a as u16 * 256 + b as u16
