@@ -1,2 +1,3 @@
+pub mod FirstRecord
 pub mod OneAnswer
 pub mod Texts

@@ -3,7 +3,7 @@ use Prim.Native.Nat.{ℕ}
 use mathlib.Core.List.{List}
 use mathlib.Core.Path.{_≡_}
 use denote.Ref.{now}
-use Rattle.unit.specs.OneAnswer.{OneReading}
+use Rattle.unit.specs.OneAnswer.{OneReading, OneAnswer}
 use Rattle.unit.proofs.OneAnswer.{equal}
 use Rattle.lines.specs.Text.{Added}
 use Rattle.lines.proofs.text.add.Kinds as add-kinds
@@ -12,6 +12,8 @@ use Rattle.lines.proofs.text.add_number.Kinds as add-number-kinds
 use Rattle.lines.proofs.text.add_number.Reads as add-number
 use Rattle.lines.proofs.text.add_hexadecimal.Kinds as add-hexadecimal-kinds
 use Rattle.lines.proofs.text.add_hexadecimal.Reads as add-hexadecimal
+use Rattle.lines.proofs.first_record.Kinds as first-record-kinds
+use Rattle.lines.proofs.first_record.Reads as first-record
 use Rattle.lines.proofs.event_line.Kinds as event-line-kinds
 use Rattle.lines.proofs.event_line.Reads as event-line
 use Rattle.lines.proofs.signal_line.Kinds as signal-line-kinds
@@ -34,11 +36,14 @@ add-number-one κs arguments x y e f p q = one (p .0) (q .0)
 pub add-hexadecimal-one : OneReading add-hexadecimal-kinds.ps add-hexadecimal-kinds.r (ℕ × List ℕ) (λ κs arguments x e. (x, now (e .0))) add-hexadecimal.Post
 add-hexadecimal-one κs arguments x y e f = one
 
+pub first-record-one : OneAnswer first-record-kinds.ps first-record-kinds.r first-record.Post
+first-record-one κs arguments x y e f = equal
+
 pub event-line-one : OneReading event-line-kinds.ps event-line-kinds.r (ℕ × List ℕ) (λ κs arguments x e. (x, now (e .0))) event-line.Post
-event-line-one κs arguments x y e f = one
+event-line-one κs arguments x y e f p q = one (p .0) (q .0)
 
 pub signal-line-one : OneReading signal-line-kinds.ps signal-line-kinds.r (ℕ × List ℕ) (λ κs arguments x e. (x, now (e .0))) signal-line.Post
-signal-line-one κs arguments x y e f = one
+signal-line-one κs arguments x y e f p q = one (p .0) (q .0)
 
 pub link-line-one : OneReading link-line-kinds.ps link-line-kinds.r (ℕ × List ℕ) (λ κs arguments x e. (x, now (e .0))) link-line.Post
-link-line-one κs arguments x y e f = one
+link-line-one κs arguments x y e f p q = one (p .0) (q .0)

@@ -1,5 +1,5 @@
 -- The lines of document 01's trace.
-use Prim.Native.Nat.{ℕ}
+use Prim.Native.Nat.{ℕ, _+_}
 use mathlib.Core.Bool.{cond}
 use mathlib.Core.List.{List, [], _∷_, _++_}
 use lib.Dec.{eqb, ltb}
@@ -9,7 +9,7 @@ use Rattle.link.specs.declared.Link.{Link}
 use Rattle.record.specs.declared.Slot.{Slot}
 use Rattle.record.specs.Octets.{at}
 use Rattle.record.specs.LinkRecord.{slotOf}
-use Rattle.record.specs.Frame.{headOctets, linkAt, codeAt, paramAt, messageOf}
+use Rattle.record.specs.Frame.{headOctets, linkAt, codeAt, paramAt, lengthAt, messageOf}
 use Rattle.lines.specs.Text.{ascii, decimal, hexadecimal, line}
 
 -- "Per event it prints E, ordinal, link, event code, refusal, signals"; "a refusal 2 prints link and code as 0".
@@ -20,6 +20,10 @@ abbrev pub eventLine : ℕ → List ℕ → ℕ → ℕ → List ℕ
 eventLine ordinal e refusal signals =
     line (ascii ("E" ∷ []))
     (decimal ordinal ∷ decimal (shown refusal (linkAt e)) ∷ decimal (shown refusal (codeAt e)) ∷ decimal refusal ∷ decimal signals ∷ [])
+
+-- Of signals one behind the other, the length of the first, 0 if there is none.
+abbrev pub firstRecord : List ℕ → ℕ
+firstRecord o = cond (ltb (length o) headOctets) 0 (cond (ltb (length o) (headOctets + lengthAt o)) 0 (headOctets + lengthAt o))
 
 -- "Per signal S, code, parameter, number as three decimals, message in hex or '-'".
 abbrev pub dotted : ℕ → ℕ → ℕ → List ℕ

@@ -2,6 +2,7 @@
 pub mod text;
 
 use record::Slot;
+use record::events::HEAD;
 use record::events::message;
 use table6::State;
 use text::add;
@@ -13,7 +14,7 @@ ghost use Prim.Native.Nat.{_+_, _*_, _≤_};
 ghost use lib.ListN.{length};
 ghost use Rattle.record.specs.Frame.{headOctets};
 ghost use Rattle.lines.specs.Text.{decimal, Added};
-ghost use Rattle.lines.specs.Lines.{shown, eventLine, dotted, messageText, signalLine, stateName, slotText, linkLine};
+ghost use Rattle.lines.specs.Lines.{firstRecord, shown, eventLine, dotted, messageText, signalLine, stateName, slotText, linkLine};
 
 const SPACE: u8 = b' ';
 
@@ -31,7 +32,7 @@ fn shown_as(refusal: u32, n: u16) -> u16
 // The line of an event whose record begins the octets e, and of what the step answered.
 pub fn event_line(text: &mut [u8], ordinal: u64, e: &[u8], refusal: u32, signals: u32) -> usize
     requires { ⌜ (headOctets ≤ length (now e)) × (128 ≤ length (now text)) ⌝ }
-    ensures { λ r. ⌜ Added (eventLine ordinal (now (e .entry)) refusal signals) (now (text .entry)) 0 r (now (text .exit)) ⌝ }
+    ensures { λ r. ⌜ Added (eventLine ordinal (now (e .entry)) refusal signals) (now (text .entry)) 0 r (now (text .exit)) × (r ≤ 128) ⌝ }
 {
     let link = shown_as(refusal, record::wide(e[2], e[3]));
     let code = shown_as(refusal, record::wide(0, e[4]));
@@ -41,6 +42,17 @@ pub fn event_line(text: &mut [u8], ordinal: u64, e: &[u8], refusal: u32, signals
     let d = add_number(text, c, code as u64, SPACE);
     let f = add_number(text, d, refusal as u64, SPACE);
     add_number(text, f, signals as u64, NEWLINE)
+}
+
+// How long the record is that begins some octets, 0 if they hold none.
+pub fn first_record(octets: &[u8]) -> usize
+    ensures { λ r. ⌜ r ≡ firstRecord (now (octets .entry)) ⌝ }
+{
+    if octets.len() < HEAD {
+        return 0;
+    }
+    let n = HEAD + record::wide(octets[10], octets[11]) as usize;
+    if octets.len() < n { 0 } else { n }
 }
 
 // Adds a message in hexadecimal, or "-" where there is none.
@@ -84,7 +96,7 @@ fn add_code(text: &mut [u8], code: u8, param: u8) -> usize
 // The line of a signal's record.
 pub fn signal_line(text: &mut [u8], r: &[u8]) -> usize
     requires { ⌜ (headOctets ≤ length (now r)) × (128 + 2 * length (now r) ≤ length (now text)) ⌝ }
-    ensures { λ n. ⌜ Added (signalLine (now (r .entry))) (now (text .entry)) 0 n (now (text .exit)) ⌝ }
+    ensures { λ n. ⌜ Added (signalLine (now (r .entry))) (now (text .entry)) 0 n (now (text .exit)) × (n ≤ 128 + 2 * length (now (r .entry))) ⌝ }
 {
     let a = add_code(text, r[4], r[5]);
     let b = add_dotted(text, a, r[6], r[7], r[8]);
@@ -111,7 +123,7 @@ fn add_state(text: &mut [u8], a: usize, s: State) -> usize
 // Adds a link's state and C1, or what stands for an ill-formed record.
 fn add_slot(text: &mut [u8], a: usize, slot: Slot) -> usize
     requires { ⌜ a + 32 ≤ length (now text) ⌝ }
-    ensures { λ r. ⌜ Added (slotText slot) (now (text .entry)) a r (now (text .exit)) ⌝ }
+    ensures { λ r. ⌜ Added (slotText slot) (now (text .entry)) a r (now (text .exit)) × (r ≤ a + 32) ⌝ }
 {
     match slot {
         Slot::IllFormed => add(text, a, b"? 0\n"),
@@ -127,7 +139,7 @@ fn add_slot(text: &mut [u8], a: usize, slot: Slot) -> usize
 // The line of link k, whose record is r.
 pub fn link_line(text: &mut [u8], k: u16, r: &[u8]) -> usize
     requires { ⌜ 64 ≤ length (now text) ⌝ }
-    ensures { λ n. ⌜ Added (linkLine k (now (r .entry))) (now (text .entry)) 0 n (now (text .exit)) ⌝ }
+    ensures { λ n. ⌜ Added (linkLine k (now (r .entry))) (now (text .entry)) 0 n (now (text .exit)) × (n ≤ 64) ⌝ }
 {
     let a = add(text, 0, b"L ");
     let b = add_number(text, a, k as u64, SPACE);

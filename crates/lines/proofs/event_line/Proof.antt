@@ -90,7 +90,7 @@ returns c =
     let q3 = added-then _ (word code 32) t _ _ 0 _ _ (omega arith) q2 p3 in
     let q4 = added-then _ (word (a .refusal) 32) t _ _ 0 _ _ (omega arith) q3 (c .before .before .before .before .before .before .add-number4 .ensures .0) in
     let q5 = added-then _ (word (a .signals) 10) t _ _ 0 _ _ (omega arith) q4 (c .before .before .add-number5 .ensures .0) in
-    added-as (words (a .ordinal) link code (a .refusal) (a .signals)) q5
+    (added-as (words (a .ordinal) link code (a .refusal) (a .signals)) q5, omega (arith, c .before .before .before .before .before .before .before .before .before .before .before .before .before .before .before .before .before .before .before .before .before .before .add .ensures .answer, c .before .before .before .before .before .before .before .before .before .before .before .before .before .before .before .before .before .before .add-number .ensures .1, c .before .before .before .before .before .before .before .before .before .before .before .before .before .before .add-number2 .ensures .1, c .before .before .before .before .before .before .before .before .before .before .add-number3 .ensures .1, c .before .before .before .before .before .before .add-number4 .ensures .1, c .before .before .add-number5 .ensures .1))
 
 pub event-line-spec : {M : Type 1} → statement M
 event-line-spec =

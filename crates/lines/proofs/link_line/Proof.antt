@@ -38,8 +38,8 @@ returns c =
     let a = c .before .before .before .before .before .before .before .before .before .before .before .before .before .before .before .before .args in
     let t = a .text .now in
     let q1 = added-then (76 ∷ 32 ∷ []) (decimal (a .k) ++ 32 ∷ []) t _ _ 0 _ _ (omega arith) (c .before .before .before .before .before .before .before .before .before .before .before .add .ensures) (c .before .before .before .before .before .before .before .add-number .ensures .0) in
-    let q2 = added-then _ (slotText (slotOf (a .r .now))) t _ _ 0 _ _ (omega arith) q1 (added-as (ap slotText (c .before .before .before .read-link .ensures)) (c .before .before .add-slot .ensures)) in
-    added-as (words (a .k) (slotText (slotOf (a .r .now)))) q2
+    let q2 = added-then _ (slotText (slotOf (a .r .now))) t _ _ 0 _ _ (omega arith) q1 (added-as (ap slotText (c .before .before .before .read-link .ensures)) (c .before .before .add-slot .ensures .0)) in
+    (added-as (words (a .k) (slotText (slotOf (a .r .now)))) q2, omega (arith, c .before .before .before .before .before .before .before .before .before .before .before .add .ensures .answer, c .before .before .before .before .before .before .before .add-number .ensures .1, c .before .before .add-slot .ensures .1))
 
 pub link-line-spec : {M : Type 1} → statement M
 link-line-spec =

@@ -79,7 +79,19 @@ returns c =
     let q1 = added-then _ (dotted (at r 6) (at r 7) (at r 8) ++ 32 ∷ []) (a .text .now) _ _ 0 _ _ (omega arith) (c .before .before .before .before .before .before .before .before .before .before .before .before .before .before .before .before .before .before .before .add-code .ensures .0) (c .before .before .before .before .before .before .before .before .before .before .before .before .add-dotted .ensures .0) in
     let q2 = added-then _ (messageText (messageOf r)) (a .text .now) _ _ 0 _ _ (omega arith) q1 (added-as (ap (λ (m : List ℕ). messageText m) (c .before .before .before .before .before .before .before .before .message .ensures)) (c .before .before .before .before .before .before .before .add-message .ensures)) in
     let q3 = added-then _ (10 ∷ []) (a .text .now) _ _ 0 _ _ (omega arith) q2 (c .before .before .add .ensures) in
-    added-as (words (codeAt r) (paramAt r) (dotted (at r 6) (at r 7) (at r 8)) (messageText (messageOf r))) q3
+    let n : c .before .before .add .result ≤ 128 + 2 * length r =
+    omega (
+      arith,
+      c .before .before .add .ensures .answer,
+      c .before .before .before .before .before .before .before .add-message .ensures .answer,
+      message-length (c .before .before .before .before .before .before .before .before .message .result .now),
+      c .before .before .before .before .before .before .before .before .before .before .before .before .add-dotted .ensures .1,
+      c .before .before .before .before .before .before .before .before .before .before .before .before .before .before .before .before .before .before .before .add-code .ensures .1,
+      ap length (c .before .before .before .before .before .before .before .before .message .ensures),
+      length-drop 12 r,
+      c .before .before .before .before .before .before .before .before .before .before .before .before .before .before .before .before .before .before .before .before .before .before .before .before .before .pre .0,
+    ) in
+    (added-as (words (codeAt r) (paramAt r) (dotted (at r 6) (at r 7) (at r 8)) (messageText (messageOf r))) q3, n)
 
 pub signal-line-spec : {M : Type 1} → statement M
 signal-line-spec =
