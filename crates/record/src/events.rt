@@ -7,10 +7,12 @@ use link::Num;
 use unit::Arrived;
 use unit::Field;
 ghost use mathlib.Core.Path.{_≡_};
+ghost use mathlib.Core.Bool.{not, _||_};
 ghost use Prim.Native.Nat.{_≤_};
+ghost use lib.Dec.{eqb};
 ghost use lib.ListN.{length};
 ghost use Rattle.record.specs.Frame.{headOctets, messageOf};
-ghost use Rattle.record.specs.EventRecord.{framed, codedAt, isStatus, hasMessage, hasNumber, hasParameter, misfit, fieldsOf, readingOf};
+ghost use Rattle.record.specs.EventRecord.{framed, codedAt, isStatus, misfit, fieldsOf, readingOf};
 
 // The octets of a record before its message, and the most of a message.
 pub const HEAD: usize = 12;
@@ -96,23 +98,11 @@ fn is_status(field: u8) -> bool
     }
 }
 
-// Which codes carry a message, a number, a parameter.
-fn has_message(code: u8) -> bool
-    ensures { λ r. ⌜ r ≡ hasMessage code ⌝ }
+// A field of a peer that is neither none nor one of the nine.
+fn bad_field(field: u8) -> bool
+    ensures { λ r. ⌜ r ≡ not (eqb field 0 || isStatus field) ⌝ }
 {
-    (code == 1) | (code == 20) | (code == 23) | (code == 24)
-}
-
-fn has_number(code: u8) -> bool
-    ensures { λ r. ⌜ r ≡ hasNumber code ⌝ }
-{
-    (code == 7) | (code == 18) | (code == 20)
-}
-
-fn has_parameter(code: u8) -> bool
-    ensures { λ r. ⌜ r ≡ hasParameter code ⌝ }
-{
-    (code == 16) | (code == 17) | (code == 18) | (code == 39)
+    if field == 0 { false } else { !is_status(field) }
 }
 
 // A field that the code doesn't carry, or one out of range, or a user's message that would be taken for a unit.
@@ -120,14 +110,21 @@ fn misfits(code: u8, param: u8, num: Num, len: u16) -> bool
     ensures { λ r. ⌜ r ≡ misfit code param num len ⌝ }
 {
     let zero = (num.a == 0) & (num.b == 0) & (num.c == 0);
-    let small = (num.a == 0) & (num.b == 0) & (num.c <= 1);
-    (!has_message(code) & (1 <= len))
-        | (!has_number(code) & !zero)
-        | (!has_parameter(code) & (1 <= param))
-        | (((code == 16) | (code == 17) | (code == 18)) & !((param == 0) | is_status(param)))
-        | ((code == 39) & (4 <= param))
-        | ((code == 18) & !small)
-        | ((code == 1) & (len <= 4))
+    match code {
+        1 => !zero | (1 <= param) | (len <= 4),
+        7 => (1 <= len) | (1 <= param),
+        16 => (1 <= len) | !zero | bad_field(param),
+        17 => (1 <= len) | !zero | bad_field(param),
+        18 => {
+            let small = (num.a == 0) & (num.b == 0) & (num.c <= 1);
+            (1 <= len) | bad_field(param) | !small
+        }
+        20 => 1 <= param,
+        23 => !zero | (1 <= param),
+        24 => !zero | (1 <= param),
+        39 => (1 <= len) | !zero | (4 <= param),
+        _ => (1 <= len) | !zero | (1 <= param),
+    }
 }
 
 // What octets are as an event record: the event with its link, or the first of checks 2, 3 and 4 that refuses them.
