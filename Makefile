@@ -1,7 +1,8 @@
-# `make`: set-up, proof and library, a first result to look at, and a C program over the library. `make test`: the gate.
+# `make`: set-up, proof and library, first results to look at, the trace of a short story among them, and a C program over the library. `make test`: the gate.
 # `make install`: the library for C with its header, below PREFIX; DESTDIR goes before that, for packages.
+# `make bench`: what a step costs, against a second machine.
 .POSIX:
-.PHONY: all setup library look example install test clean
+.PHONY: all setup library look example install bench test clean
 
 PREFIX = /usr/local
 ARCHIVE = target/staticlib/libsscf.a
@@ -18,6 +19,7 @@ library: setup
 
 look: library
 	examples/wrong-row
+	examples/story | host/x86 target/bin/trace
 
 example: library
 	host/run host/example.c
@@ -33,6 +35,9 @@ install: $(ARCHIVE)
 	version=$$(sed -n 's/^#define SSCF_VERSION "\(.*\)"$$/\1/p' include/sscf.h) && \
 	sed -e 's|@PREFIX@|$(PREFIX)|' -e "s|@VERSION@|$$version|" include/sscf.pc.in | \
 	install -m 644 /dev/stdin '$(DESTDIR)$(PREFIX)/lib/pkgconfig/sscf.pc'
+
+bench: setup $(ARCHIVE)
+	host/bench
 
 test:
 	.ci/run

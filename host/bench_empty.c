@@ -1,0 +1,25 @@
+/*
+ * For bench.c: a machine that does nothing, so that the cost of calling one can be taken off, and the
+ * mark that parts one stretch of calls from the next. They stand in a file of their own so that
+ * the compiler, which knows what they do, cannot leave the calls out.
+ */
+#include <sscf.h>
+
+void bench_mark(void);
+struct sscf_answer empty_step(uint8_t *table, size_t table_octets,
+                              const uint8_t *event, size_t event_octets,
+                              uint8_t *out, size_t out_octets);
+
+void bench_mark(void)
+{
+}
+
+struct sscf_answer empty_step(uint8_t *table, size_t table_octets,
+                              const uint8_t *event, size_t event_octets,
+                              uint8_t *out, size_t out_octets)
+{
+    struct sscf_answer nothing = {SSCF_ACCEPTED, 0, 0};
+
+    (void)table, (void)table_octets, (void)event, (void)event_octets, (void)out, (void)out_octets;
+    return nothing;
+}

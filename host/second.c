@@ -1,0 +1,881 @@
+/*
+ * The second machine: the whole of both calls, written by cases from the printed Table 6 of Q.2140
+ * so that the library has something independent to be compared with and a yardstick for its speed.
+ * It shares no table, constant or line with the library.
+ */
+#include "second.h"
+
+#include <stdbool.h>
+#include <string.h>
+
+enum { RECORD = 16, HEADER = 12, LONGEST_TABLE = 4096, LONGEST_MESSAGE = 4096, ROOM = 8 * 12 + 4096 };
+
+enum { UNIT = 4, SHORTEST_USER_MESSAGE = 5 };
+
+/* Where the fields of a link's record stand, and those of an event or a signal. */
+enum { STATE = 2, FLAGS = 3, MPS = 4, UPS = 5, TIMERS = 6, KNOWN = 7, BSNT = 8, SPARE = 11, C1 = 12, N1 = 14 };
+enum { LINK = 2, CODE = 4, PARAMETER = 5, NUMBER = 6, ZERO = 9, LENGTH = 10, MESSAGE = HEADER };
+
+/* The states in the order of their codes, by their names in Table 6: upper, lower, management. */
+enum { S_1_1_1 = 1, S_1_4_1, S_2_1_2, S_2_2_2, S_2_4_2, S_2_10_3, S_2_10_4, S_3_10_5 };
+
+enum { INS_FLAG = 1, LPO = 2 };
+enum { T1 = 1, T2 = 2, T3 = 4 };
+enum { MPS_NEUTRAL, MPS_NORMAL, MPS_EMERGENCY };
+enum { UPS_NORMAL, UPS_EMERGENCY };
+
+/* Clause 10's status codes: what a unit says, and what the field of a connection signal says. */
+enum { OOS = 1, PO = 2, INS = 3, NM = 4, EM = 5, ANS = 7, MI = 8, PE = 9, PNS = 10 };
+
+enum { MESSAGE_FOR_TRANSMISSION = 1, EMERGENCY, EMERGENCY_CEASES, STOP, START, RETRIEVE_BSNT,
+       RETRIEVAL_REQUEST_AND_FSNC, FLUSH_BUFFERS, CONTINUE };
+enum { ESTABLISH_INDICATION = 16, ESTABLISH_CONFIRM, RELEASE_INDICATION, RELEASE_CONFIRM, DATA, RESYNC,
+       RECOVER, UNITDATA, RETRIEVE, RETRIEVE_COMPLETE };
+enum { PROVING_UNSUCCESSFUL = 32, MANAGEMENT_RELEASE, OUTAGE, RECOVERED, FORCE_PROVING, FORCE_EMERGENCY,
+       CLEAR_FORCE_MODES, CONGESTION, CONGESTION_CEASED };
+enum { T1_EXPIRED = 48, T2_EXPIRED, T3_EXPIRED };
+
+enum { TO_USER_MESSAGE = 1, TO_USER_CONGESTED, TO_USER_CEASED, TO_USER_IN_SERVICE, TO_USER_OUT_OF_SERVICE,
+       TO_USER_RETRIEVED, TO_USER_RETRIEVAL_COMPLETE, TO_USER_BSNT, TO_USER_BSNT_NOT_RETRIEVABLE };
+enum { ESTABLISH_REQUEST = 16, ESTABLISH_RESPONSE, RELEASE_REQUEST, DATA_REQUEST, RECOVER_RESPONSE,
+       RETRIEVE_REQUEST };
+enum { START_PROVING = 32, STOP_PROVING, REPORT };
+enum { SET_T1 = 48, SET_T2, SET_T3, RESET_T1 = 56, RESET_T2, RESET_T3 };
+
+/* The three places of a report; 0 is its "-". Named apart from the status codes, which differ. */
+enum { LR = 1, RR, SR };
+enum { TO_OOS = 1, TO_INS, TO_ALN };
+enum { FOR_ANS = 1, FOR_CC, FOR_CD, FOR_PE, FOR_SREC, FOR_UDR, FOR_PDUT, FOR_SSCOP_UU };
+
+/* One event on its way through: the record it alters and the place where its next signal goes. */
+struct step {
+    uint8_t *link;
+    const uint8_t *event;
+    uint8_t *end;
+    uint32_t length, signals;
+};
+
+static uint32_t two(const uint8_t *at)
+{
+    return (uint32_t)at[0] << 8 | at[1];
+}
+
+static uint32_t three(const uint8_t *at)
+{
+    return (uint32_t)at[0] << 16 | (uint32_t)at[1] << 8 | at[2];
+}
+
+/* Signals. */
+
+static void put(struct step *s, unsigned code, unsigned parameter, uint32_t number, uint32_t length)
+{
+    uint8_t *to = s->end;
+
+    to[0] = 'S';
+    to[1] = 'G';
+    to[LINK] = s->event[LINK];
+    to[LINK + 1] = s->event[LINK + 1];
+    to[CODE] = (uint8_t)code;
+    to[PARAMETER] = (uint8_t)parameter;
+    to[NUMBER] = (uint8_t)(number >> 16);
+    to[NUMBER + 1] = (uint8_t)(number >> 8);
+    to[NUMBER + 2] = (uint8_t)number;
+    to[ZERO] = 0;
+    to[LENGTH] = (uint8_t)(length >> 8);
+    to[LENGTH + 1] = (uint8_t)length;
+    s->end = to + HEADER;
+    s->signals++;
+}
+
+static void emit(struct step *s, unsigned code)
+{
+    put(s, code, 0, 0, 0);
+}
+
+static void pass_message_on(struct step *s, unsigned code)
+{
+    put(s, code, 0, 0, s->length);
+    memcpy(s->end, s->event + MESSAGE, s->length);
+    s->end += s->length;
+}
+
+static void send_unit(struct step *s, unsigned status)
+{
+    put(s, DATA_REQUEST, 0, 0, UNIT);
+    s->end[0] = s->end[1] = s->end[2] = 0;
+    s->end[3] = (uint8_t)status;
+    s->end += UNIT;
+}
+
+static void release(struct step *s, unsigned status)
+{
+    put(s, RELEASE_REQUEST, status, 0, 0);
+}
+
+static void report(struct step *s, unsigned lower, unsigned upper, unsigned reason)
+{
+    put(s, REPORT, 0, lower << 16 | upper << 8 | reason, 0);
+}
+
+/* Table 8. The buffer release parameter is always no, which is 0 in the number. */
+static void establish(struct step *s, unsigned code)
+{
+    bool haste = s->link[MPS] == MPS_EMERGENCY
+              || (s->link[MPS] == MPS_NEUTRAL && s->link[UPS] == UPS_EMERGENCY);
+
+    put(s, code, haste ? EM : NM, 0, 0);
+}
+
+static void reset(struct step *s, unsigned timers)
+{
+    s->link[TIMERS] &= (uint8_t)~timers;
+    if (timers & T1)
+        emit(s, RESET_T1);
+    if (timers & T2)
+        emit(s, RESET_T2);
+    if (timers & T3)
+        emit(s, RESET_T3);
+}
+
+static void set(struct step *s, unsigned timer)
+{
+    s->link[TIMERS] |= (uint8_t)timer;
+    emit(s, timer == T1 ? SET_T1 : timer == T2 ? SET_T2 : SET_T3);
+}
+
+/* How cells end: an illegal one by false, every other by one of the three that follow, which answer true. */
+
+static const bool illegal = false;
+
+static bool stay(void)
+{
+    return true;
+}
+
+static bool go(struct step *s, unsigned state)
+{
+    s->link[STATE] = (uint8_t)state;
+    return true;
+}
+
+/* Every cell that gives a link back to the user also says "Set UPS = NM". */
+static bool give_up(struct step *s, unsigned state)
+{
+    s->link[UPS] = UPS_NORMAL;
+    return go(s, state);
+}
+
+/* Table 7, and the INS flag: both belong to the moment when a connection comes up. */
+static void connection_up(struct step *s)
+{
+    uint8_t *link = s->link;
+    bool prove = link[MPS] == MPS_NORMAL
+              || (link[MPS] == MPS_NEUTRAL && link[UPS] == UPS_NORMAL && s->event[PARAMETER] != EM);
+
+    link[FLAGS] &= (uint8_t)~INS_FLAG;
+    link[C1] = prove ? link[N1] : 0;
+    link[C1 + 1] = prove ? link[N1 + 1] : 0;
+}
+
+/* Table 6, the user's events. The second half's columns are 2/4/2, 3/10/5, 2/10/3, 2/10/4. */
+
+static bool user_start(struct step *s)
+{
+    switch (s->link[STATE]) {
+    case S_1_1_1:
+    case S_1_4_1:
+        establish(s, ESTABLISH_REQUEST);
+        report(s, 0, TO_ALN, 0);
+        set(s, T2);
+        return go(s, S_2_2_2);
+    default:
+        return illegal;
+    }
+}
+
+static bool user_stop(struct step *s)
+{
+    switch (s->link[STATE]) {
+    case S_2_1_2:
+        report(s, 0, TO_OOS, 0);
+        reset(s, T1 | T2);
+        return give_up(s, S_1_1_1);
+    case S_2_2_2:
+        release(s, OOS);
+        report(s, 0, TO_OOS, 0);
+        reset(s, T2);
+        return give_up(s, S_1_4_1);
+    case S_2_4_2:
+        report(s, 0, TO_OOS, 0);
+        reset(s, T2);
+        return give_up(s, S_1_4_1);
+    case S_3_10_5:
+        release(s, OOS);
+        report(s, LR, TO_OOS, 0);
+        return give_up(s, S_1_4_1);
+    case S_2_10_3:
+        release(s, OOS);
+        report(s, LR, TO_OOS, 0);
+        emit(s, STOP_PROVING);
+        reset(s, T2 | T3);
+        return give_up(s, S_1_4_1);
+    case S_2_10_4:
+        release(s, OOS);
+        report(s, LR, TO_OOS, 0);
+        reset(s, T2);
+        return give_up(s, S_1_4_1);
+    default:
+        return illegal;
+    }
+}
+
+static bool user_haste(struct step *s, unsigned ups)
+{
+    if (s->link[STATE] == S_3_10_5)
+        return illegal;
+    s->link[UPS] = (uint8_t)ups;
+    return stay();
+}
+
+static bool user_message(struct step *s)
+{
+    if (s->link[STATE] != S_3_10_5)
+        return illegal;
+    pass_message_on(s, DATA_REQUEST);
+    report(s, 0, 0, FOR_PDUT);
+    return stay();
+}
+
+static bool user_retrieve_bsnt(struct step *s)
+{
+    switch (s->link[STATE]) {
+    case S_1_1_1:
+    case S_1_4_1:
+        if (s->link[KNOWN])
+            put(s, TO_USER_BSNT, 0, three(s->link + BSNT), 0);
+        else
+            emit(s, TO_USER_BSNT_NOT_RETRIEVABLE);
+        return stay();
+    default:
+        return illegal;
+    }
+}
+
+static bool user_retrieval(struct step *s)
+{
+    switch (s->link[STATE]) {
+    case S_1_1_1:
+    case S_1_4_1:
+        put(s, RETRIEVE_REQUEST, 0, three(s->event + NUMBER), 0);
+        return stay();
+    default:
+        return illegal;
+    }
+}
+
+/* Table 6, SSCOP's events. */
+
+static bool names_a_proving_mode(const struct step *s)
+{
+    return s->event[PARAMETER] == NM || s->event[PARAMETER] == EM;
+}
+
+static bool establish_indication(struct step *s)
+{
+    switch (s->link[STATE]) {
+    case S_1_1_1:
+        release(s, s->link[FLAGS] & LPO ? PO : OOS);
+        return stay();
+    case S_2_1_2:
+        /* No response is sent to another field, so no connection comes up. */
+        if (!names_a_proving_mode(s)) {
+            release(s, PE);
+            report(s, LR, 0, FOR_PE);
+            return stay();
+        }
+        establish(s, ESTABLISH_RESPONSE);
+        emit(s, START_PROVING);
+        connection_up(s);
+        reset(s, T1);
+        set(s, T3);
+        return go(s, S_2_10_3);
+    default:
+        return illegal;
+    }
+}
+
+static bool establish_confirm(struct step *s)
+{
+    if (s->link[STATE] != S_2_2_2)
+        return illegal;
+    /* With any field: a connection that is released at once has come up all the same. */
+    connection_up(s);
+    if (!names_a_proving_mode(s)) {
+        release(s, PE);
+        report(s, LR, 0, FOR_PE);
+        return go(s, S_2_4_2);
+    }
+    emit(s, START_PROVING);
+    set(s, T3);
+    return go(s, S_2_10_3);
+}
+
+/* The far user's release hands its field on to management; that of SSCOP itself is discarded. */
+static void report_release(struct step *s, unsigned upper_if_sscop)
+{
+    if (s->event[NUMBER + 2] == 0)
+        put(s, REPORT, s->event[PARAMETER], RR << 16 | FOR_SSCOP_UU, 0);
+    else
+        report(s, SR, upper_if_sscop, 0);
+}
+
+static bool release_indication(struct step *s)
+{
+    switch (s->link[STATE]) {
+    case S_2_2_2:
+    case S_2_10_4:
+        report_release(s, 0);
+        set(s, T1);
+        return go(s, S_2_1_2);
+    case S_3_10_5:
+        emit(s, TO_USER_OUT_OF_SERVICE);
+        report_release(s, TO_OOS);
+        return give_up(s, S_1_1_1);
+    case S_2_10_3:
+        report_release(s, 0);
+        emit(s, STOP_PROVING);
+        reset(s, T3);
+        set(s, T1);
+        return go(s, S_2_1_2);
+    default:
+        return illegal;
+    }
+}
+
+static bool release_confirm(struct step *s)
+{
+    switch (s->link[STATE]) {
+    case S_1_4_1:
+        return go(s, S_1_1_1);
+    case S_2_4_2:
+        set(s, T1);
+        return go(s, S_2_1_2);
+    default:
+        return illegal;
+    }
+}
+
+/* The answers to a peer's error, which several rows print alike. */
+
+static bool error_in_service(struct step *s)
+{
+    release(s, PE);
+    emit(s, TO_USER_OUT_OF_SERVICE);
+    report(s, LR, TO_OOS, FOR_PE);
+    return give_up(s, S_1_4_1);
+}
+
+static bool error_while_proving(struct step *s)
+{
+    report(s, LR, 0, FOR_PE);
+    release(s, PE);
+    emit(s, STOP_PROVING);
+    reset(s, T3);
+    return go(s, S_2_4_2);
+}
+
+static bool data_for_user(struct step *s)
+{
+    switch (s->link[STATE]) {
+    case S_3_10_5:
+        pass_message_on(s, TO_USER_MESSAGE);
+        return stay();
+    case S_2_10_3:
+        return error_while_proving(s);
+    default: /* 2/10/4 */
+        release(s, PE);
+        report(s, LR, 0, FOR_PE);
+        return go(s, S_2_4_2);
+    }
+}
+
+static bool data_in_service_unit(struct step *s)
+{
+    switch (s->link[STATE]) {
+    case S_3_10_5:
+        return error_in_service(s);
+    case S_2_10_3:
+        s->link[FLAGS] |= INS_FLAG;
+        return stay();
+    default: /* 2/10/4 */
+        emit(s, TO_USER_IN_SERVICE);
+        report(s, 0, TO_INS, 0);
+        reset(s, T2);
+        return go(s, S_3_10_5);
+    }
+}
+
+static bool data_normal_unit(struct step *s)
+{
+    return s->link[STATE] == S_3_10_5 ? error_in_service(s) : stay();
+}
+
+/* All four rows of DATA are legal in the same three states and take its number, whatever arrived. */
+static bool data(struct step *s)
+{
+    if (s->link[STATE] != S_3_10_5 && s->link[STATE] != S_2_10_3 && s->link[STATE] != S_2_10_4)
+        return illegal;
+    s->link[KNOWN] = 1;
+    memcpy(s->link + BSNT, s->event + NUMBER, 3);
+    if (s->length > UNIT)
+        return data_for_user(s);
+    if (s->length == UNIT && s->event[MESSAGE + 3] == INS)
+        return data_in_service_unit(s);
+    if (s->length == UNIT && s->event[MESSAGE + 3] == NM)
+        return data_normal_unit(s);
+    return stay();
+}
+
+static bool resync(struct step *s)
+{
+    switch (s->link[STATE]) {
+    case S_3_10_5:
+        return error_in_service(s);
+    case S_2_10_3:
+        return error_while_proving(s);
+    case S_2_10_4:
+        report(s, LR, 0, FOR_PE);
+        release(s, PE);
+        return go(s, S_2_4_2);
+    default:
+        return illegal;
+    }
+}
+
+static bool recover(struct step *s)
+{
+    switch (s->link[STATE]) {
+    case S_3_10_5:
+    case S_2_10_4:
+        emit(s, RECOVER_RESPONSE);
+        report(s, 0, 0, FOR_SREC);
+        return stay();
+    case S_2_10_3:
+        return error_while_proving(s);
+    default:
+        return illegal;
+    }
+}
+
+static bool unitdata(struct step *s)
+{
+    report(s, 0, 0, FOR_UDR);
+    return stay();
+}
+
+static bool retrieve(struct step *s)
+{
+    switch (s->link[STATE]) {
+    case S_1_1_1:
+    case S_1_4_1:
+        if (s->length > UNIT)
+            pass_message_on(s, TO_USER_RETRIEVED);
+        return stay();
+    default:
+        return illegal;
+    }
+}
+
+static bool retrieve_complete(struct step *s)
+{
+    switch (s->link[STATE]) {
+    case S_1_1_1:
+    case S_1_4_1:
+        emit(s, TO_USER_RETRIEVAL_COMPLETE);
+        return stay();
+    default:
+        return illegal;
+    }
+}
+
+/* Table 6, management's events. */
+
+static bool proving_unsuccessful(struct step *s)
+{
+    if (s->link[STATE] != S_2_10_3)
+        return illegal;
+    release(s, PNS);
+    reset(s, T3);
+    return go(s, S_2_4_2);
+}
+
+static bool management_release(struct step *s)
+{
+    switch (s->link[STATE]) {
+    case S_2_1_2:
+        emit(s, TO_USER_OUT_OF_SERVICE);
+        reset(s, T1 | T2);
+        return give_up(s, S_1_1_1);
+    case S_2_2_2:
+    case S_2_10_4:
+        release(s, MI);
+        emit(s, TO_USER_OUT_OF_SERVICE);
+        reset(s, T2);
+        return give_up(s, S_1_4_1);
+    case S_2_4_2:
+        emit(s, TO_USER_OUT_OF_SERVICE);
+        reset(s, T2);
+        return give_up(s, S_1_4_1);
+    case S_3_10_5:
+        release(s, MI);
+        emit(s, TO_USER_OUT_OF_SERVICE);
+        return give_up(s, S_1_4_1);
+    case S_2_10_3:
+        release(s, MI);
+        emit(s, TO_USER_OUT_OF_SERVICE);
+        reset(s, T2 | T3);
+        return give_up(s, S_1_4_1);
+    default: /* 1/1/1 and 1/4/1: nothing to release */
+        return stay();
+    }
+}
+
+static bool outage(struct step *s)
+{
+    s->link[FLAGS] |= LPO;
+    switch (s->link[STATE]) {
+    case S_3_10_5:
+        release(s, PO);
+        emit(s, TO_USER_OUT_OF_SERVICE);
+        return give_up(s, S_1_4_1);
+    case S_2_10_4:
+        /* Printed PS, which no table has: PO stands. */
+        release(s, PO);
+        emit(s, TO_USER_OUT_OF_SERVICE);
+        reset(s, T2);
+        return give_up(s, S_1_4_1);
+    default:
+        return stay();
+    }
+}
+
+static bool recovered(struct step *s)
+{
+    if (s->link[STATE] == S_3_10_5 || s->link[STATE] == S_2_10_4)
+        return illegal;
+    s->link[FLAGS] &= (uint8_t)~LPO;
+    return stay();
+}
+
+static bool force(struct step *s, unsigned mps)
+{
+    s->link[MPS] = (uint8_t)mps;
+    return stay();
+}
+
+static bool congestion(struct step *s)
+{
+    switch (s->link[STATE]) {
+    case S_3_10_5:
+    case S_2_10_4:
+        put(s, TO_USER_CONGESTED, s->event[PARAMETER], 0, 0);
+        report(s, 0, 0, FOR_CD);
+        return stay();
+    case S_2_10_3:
+        release(s, PNS);
+        report(s, LR, 0, FOR_CD);
+        emit(s, STOP_PROVING);
+        reset(s, T3);
+        return go(s, S_2_4_2);
+    default: /* implementation dependent */
+        return stay();
+    }
+}
+
+static bool congestion_ceased(struct step *s)
+{
+    switch (s->link[STATE]) {
+    case S_2_4_2:
+        report(s, 0, 0, FOR_CC);
+        return stay();
+    case S_3_10_5:
+    case S_2_10_4:
+        emit(s, TO_USER_CEASED);
+        report(s, 0, 0, FOR_CC);
+        return stay();
+    case S_2_10_3:
+        return illegal;
+    default: /* implementation dependent */
+        return stay();
+    }
+}
+
+/* Table 6, the timers. A timer that expires stops running without an order. */
+
+static bool t1_expired(struct step *s)
+{
+    if (s->link[STATE] != S_2_1_2)
+        return illegal;
+    s->link[TIMERS] &= (uint8_t)~T1;
+    establish(s, ESTABLISH_REQUEST);
+    return go(s, S_2_2_2);
+}
+
+static bool t2_while_up(struct step *s)
+{
+    bool proving = s->link[STATE] == S_2_10_3;
+
+    report(s, LR, TO_OOS, FOR_ANS);
+    if (proving)
+        emit(s, STOP_PROVING);
+    emit(s, TO_USER_OUT_OF_SERVICE);
+    release(s, ANS);
+    if (proving)
+        reset(s, T3);
+    return give_up(s, S_1_4_1);
+}
+
+static bool t2_expired(struct step *s)
+{
+    unsigned state = s->link[STATE];
+
+    if (state == S_1_1_1 || state == S_1_4_1 || state == S_3_10_5)
+        return illegal;
+    s->link[TIMERS] &= (uint8_t)~T2;
+    switch (state) {
+    case S_2_1_2:
+        emit(s, TO_USER_OUT_OF_SERVICE);
+        report(s, LR, TO_OOS, FOR_ANS);
+        reset(s, T1);
+        return give_up(s, S_1_1_1);
+    case S_2_2_2:
+        release(s, ANS);
+        emit(s, TO_USER_OUT_OF_SERVICE);
+        report(s, LR, TO_OOS, FOR_ANS);
+        return give_up(s, S_1_4_1);
+    case S_2_4_2:
+        emit(s, TO_USER_OUT_OF_SERVICE);
+        report(s, 0, TO_OOS, FOR_ANS);
+        return give_up(s, S_1_4_1);
+    default: /* 2/10/3 and 2/10/4 */
+        return t2_while_up(s);
+    }
+}
+
+static bool end_of_proving(struct step *s)
+{
+    if (s->link[FLAGS] & LPO) {
+        release(s, PO);
+        emit(s, TO_USER_OUT_OF_SERVICE);
+        report(s, LR, TO_OOS, 0);
+        emit(s, STOP_PROVING);
+        reset(s, T2);
+        return give_up(s, S_1_4_1);
+    }
+    emit(s, STOP_PROVING);
+    send_unit(s, INS);
+    if (!(s->link[FLAGS] & INS_FLAG))
+        return go(s, S_2_10_4);
+    report(s, 0, TO_INS, 0);
+    emit(s, TO_USER_IN_SERVICE);
+    reset(s, T2);
+    return go(s, S_3_10_5);
+}
+
+static bool t3_expired(struct step *s)
+{
+    uint8_t *link = s->link;
+    uint32_t c1 = two(link + C1);
+
+    if (link[STATE] != S_2_10_3)
+        return illegal;
+    link[TIMERS] &= (uint8_t)~T3;
+    if (c1 == 0)
+        return end_of_proving(s);
+    send_unit(s, NM);
+    c1--;
+    link[C1] = (uint8_t)(c1 >> 8);
+    link[C1 + 1] = (uint8_t)c1;
+    set(s, T3);
+    return stay();
+}
+
+/* Takes a checked event for a well-formed record, and says whether its cell is legal. */
+static bool take(struct step *s)
+{
+    switch (s->event[CODE]) {
+    case MESSAGE_FOR_TRANSMISSION:   return user_message(s);
+    case EMERGENCY:                  return user_haste(s, UPS_EMERGENCY);
+    case EMERGENCY_CEASES:           return user_haste(s, UPS_NORMAL);
+    case STOP:                       return user_stop(s);
+    case START:                      return user_start(s);
+    case RETRIEVE_BSNT:              return user_retrieve_bsnt(s);
+    case RETRIEVAL_REQUEST_AND_FSNC: return user_retrieval(s);
+    case ESTABLISH_INDICATION:       return establish_indication(s);
+    case ESTABLISH_CONFIRM:          return establish_confirm(s);
+    case RELEASE_INDICATION:         return release_indication(s);
+    case RELEASE_CONFIRM:            return release_confirm(s);
+    case DATA:                       return data(s);
+    case RESYNC:                     return resync(s);
+    case RECOVER:                    return recover(s);
+    case UNITDATA:                   return unitdata(s);
+    case RETRIEVE:                   return retrieve(s);
+    case RETRIEVE_COMPLETE:          return retrieve_complete(s);
+    case PROVING_UNSUCCESSFUL:       return proving_unsuccessful(s);
+    case MANAGEMENT_RELEASE:         return management_release(s);
+    case OUTAGE:                     return outage(s);
+    case RECOVERED:                  return recovered(s);
+    case FORCE_PROVING:              return force(s, MPS_NORMAL);
+    case FORCE_EMERGENCY:            return force(s, MPS_EMERGENCY);
+    case CLEAR_FORCE_MODES:          return force(s, MPS_NEUTRAL);
+    case CONGESTION:                 return congestion(s);
+    case CONGESTION_CEASED:          return congestion_ceased(s);
+    case T1_EXPIRED:                 return t1_expired(s);
+    case T2_EXPIRED:                 return t2_expired(s);
+    case T3_EXPIRED:                 return t3_expired(s);
+    default: /* FLUSH_BUFFERS and CONTINUE: ignored in every state, by Note 3 of Table 1 */
+        return stay();
+    }
+}
+
+/* The checks. */
+
+static bool bad_table(size_t octets)
+{
+    return octets == 0 || octets % RECORD != 0 || octets > LONGEST_TABLE;
+}
+
+static bool bad_frame(const uint8_t *event, size_t octets)
+{
+    return octets < HEADER || event[0] != 'E' || event[1] != 'V' || event[ZERO] != 0
+        || octets > HEADER + LONGEST_MESSAGE || two(event + LENGTH) != octets - HEADER;
+}
+
+/* 0 says that no field came; 6 is no status code of clause 10. */
+static bool bad_status(unsigned field)
+{
+    return field > PNS || field == 6;
+}
+
+/* Answers 3 for an unknown code, 4 for fields that do not suit it, otherwise 0. */
+static uint32_t bad_fields(const uint8_t *event, uint32_t length)
+{
+    unsigned parameter = event[PARAMETER];
+    uint32_t number = three(event + NUMBER);
+
+    switch (event[CODE]) {
+    case MESSAGE_FOR_TRANSMISSION:
+        return parameter != 0 || number != 0 || length < SHORTEST_USER_MESSAGE ? 4 : 0;
+    case RETRIEVAL_REQUEST_AND_FSNC:
+        return parameter != 0 || length != 0 ? 4 : 0;
+    case ESTABLISH_INDICATION: case ESTABLISH_CONFIRM:
+        return bad_status(parameter) || number != 0 || length != 0 ? 4 : 0;
+    case RELEASE_INDICATION:
+        return bad_status(parameter) || number > 1 || length != 0 ? 4 : 0;
+    case DATA:
+        return parameter != 0 ? 4 : 0;
+    case UNITDATA: case RETRIEVE:
+        return parameter != 0 || number != 0 ? 4 : 0;
+    case CONGESTION:
+        return parameter > 3 || number != 0 || length != 0 ? 4 : 0;
+    case EMERGENCY: case EMERGENCY_CEASES: case STOP: case START: case RETRIEVE_BSNT:
+    case FLUSH_BUFFERS: case CONTINUE:
+    case RELEASE_CONFIRM: case RESYNC: case RECOVER: case RETRIEVE_COMPLETE:
+    case PROVING_UNSUCCESSFUL: case MANAGEMENT_RELEASE: case OUTAGE: case RECOVERED:
+    case FORCE_PROVING: case FORCE_EMERGENCY: case CLEAR_FORCE_MODES: case CONGESTION_CEASED:
+    case T1_EXPIRED: case T2_EXPIRED: case T3_EXPIRED:
+        return parameter != 0 || number != 0 || length != 0 ? 4 : 0;
+    default:
+        return 3;
+    }
+}
+
+static bool bad_record(const uint8_t *link)
+{
+    return link[0] != 'L' || link[1] != 'K'
+        || link[STATE] < S_1_1_1 || link[STATE] > S_3_10_5
+        || link[FLAGS] > (INS_FLAG | LPO)
+        || link[MPS] > MPS_EMERGENCY
+        || link[UPS] > UPS_EMERGENCY
+        || link[TIMERS] > (T1 | T2 | T3)
+        || link[KNOWN] > 1
+        || (link[KNOWN] == 0 && three(link + BSNT) != 0)
+        || link[SPARE] != 0
+        || two(link + N1) == 0;
+}
+
+static bool not_running(const uint8_t *link, unsigned code)
+{
+    return code >= T1_EXPIRED && !(link[TIMERS] >> (code - T1_EXPIRED) & 1);
+}
+
+static struct second_answer refuse(uint32_t number)
+{
+    struct second_answer answer = { number, 0, 0 };
+
+    return answer;
+}
+
+/* An illegal cell goes before a short output, so the cell is tried where nothing of it shows. */
+static struct second_answer refuse_short_output(struct step s)
+{
+    uint8_t link[RECORD], out[ROOM];
+
+    memcpy(link, s.link, RECORD);
+    s.link = link;
+    s.end = out;
+    return refuse(take(&s) ? 9 : 8);
+}
+
+struct second_answer second_step(uint8_t *table, size_t table_octets,
+                                 const uint8_t *event, size_t event_octets,
+                                 uint8_t *out, size_t out_octets)
+{
+    struct step s = { table, event, out, 0, 0 };
+    struct second_answer answer = { 0, 0, 0 };
+    uint32_t refusal;
+
+    if (bad_table(table_octets))
+        return refuse(1);
+    if (bad_frame(event, event_octets))
+        return refuse(2);
+    s.length = (uint32_t)event_octets - HEADER;
+    refusal = bad_fields(event, s.length);
+    if (refusal != 0)
+        return refuse(refusal);
+    if (two(event + LINK) >= table_octets / RECORD)
+        return refuse(5);
+    s.link += RECORD * two(event + LINK);
+    if (bad_record(s.link))
+        return refuse(6);
+    if (not_running(s.link, event[CODE]))
+        return refuse(7);
+    if (out_octets < ROOM)
+        return refuse_short_output(s);
+    if (!take(&s))
+        return refuse(8);
+    answer.octets = (uint32_t)(s.end - out);
+    answer.signals = s.signals;
+    return answer;
+}
+
+uint32_t second_fresh(uint8_t *table, size_t table_octets, uint16_t n1)
+{
+    size_t at;
+
+    if (bad_table(table_octets))
+        return 1;
+    if (n1 == 0)
+        return 4;
+    for (at = 0; at < table_octets; at += RECORD) {
+        uint8_t *link = table + at;
+
+        memset(link, 0, RECORD);
+        link[0] = 'L';
+        link[1] = 'K';
+        link[STATE] = S_1_1_1;
+        link[N1] = (uint8_t)(n1 >> 8);
+        link[N1 + 1] = (uint8_t)n1;
+    }
+    return 0;
+}
