@@ -6,7 +6,8 @@ use mathlib.Core.Bool.{Bool, true, false, cond, not, _||_, true≢false}
 use mathlib.Core.List.{List, [], _∷_}
 use lib.Dec.{eqb, ltb}
 use lib.ListN.{length, take, drop, length-take, length-drop}
-use borrow.Author.Tests.{eqb-true}
+use borrow.Author.Tests.{eqb-true, not-false}
+use Rattle.record.proofs.EventRecord.{neither}
 use Rattle.sscf.specs.declared.checks.Refusal.{Refusal}
 use Rattle.sscf.specs.Checks.{Check, Verdict, passed, refused, first}
 use Rattle.sscf.specs.Step.{badTable, records, recordAt}
@@ -18,20 +19,12 @@ inside t k h = omega arith
 pub record-length : (t : List ℕ) (k : ℕ) → k < records t → length (recordAt t k) ≡ 16
 record-length t k h = let i = inside t k h in simp (length-take, length-drop) (omega arith)
 
-neither : (a b : Bool) → a || b ≡ false → (a ≡ false) × (b ≡ false)
-neither true b h = absurd (true≢false h)
-neither false b h = (refl, h)
-
-pub unnot : (a : Bool) → not a ≡ false → a ≡ true
-unnot true h = refl
-unnot false h = absurd (true≢false h)
-
 -- a good table is of whole records
 pub whole : (t : List ℕ) → badTable t ≡ false → length t % 16 ≡ 0
 whole t h =
     let a = eqb (length t) 0 in
     let b = eqb (length t % 16) 0 in
-    eqb-true (length t % 16) 0 (unnot b (neither a (not b) (neither (a || not b) (ltb 4096 (length t)) h .0) .1))
+    eqb-true (length t % 16) 0 (not-false b (neither a (not b) (neither (a || not b) (ltb 4096 (length t)) h .0) .1))
 
 -- no test of a list that is passed holds
 abbrev pub Clear : List Check → Type 0

@@ -5,7 +5,7 @@ use mathlib.Core.List.{List}
 use Prim.Native.Nat.{ℕ, _*_, _≤_, _<_}
 use native.Mathlib.Omega.{arith}
 use lib.ListN.{length}
-use borrow.Author.Tests.{ltb-false, leb-false}
+use borrow.Author.Tests.{ltb-false, leb-false, not-false}
 use Rattle.link.specs.declared.Link.{Link}
 use Rattle.link.specs.declared.Signal.{Signal}
 use Rattle.link.specs.Step as machine
@@ -21,7 +21,7 @@ use Rattle.record.proofs.SignalRecord.{joined-small}
 use Rattle.sscf.specs.declared.checks.Refusal.{Refusal}
 use Rattle.sscf.specs.Checks.{passed, refused, first}
 use Rattle.sscf.specs.Step.{records, eventOf, linkFor, checks, answered, answering, refusedBy, stepCall}
-use Rattle.sscf.proofs.Places.{unnot, clear}
+use Rattle.sscf.proofs.Places.{clear}
 
 pub record Taken (t e : List ℕ) (room : ℕ) : Type 0 where
   pub sound : framed e ≡ true
@@ -32,7 +32,7 @@ pub taken : (t e : List ℕ) (room : ℕ) → first (checks t e room) ≡ passed
 taken t e room h =
     let c = clear (checks t e room) h in
     record {
-      sound = unnot (framed e) (c .1 .0);
+      sound = not-false (framed e) (c .1 .0);
       inside = leb-false (records t) (linkAt e) (c .1 .1 .1 .1 .0);
       wide = ltb-false room 4192 (c .1 .1 .1 .1 .1 .1 .1 .1 .0);
     }

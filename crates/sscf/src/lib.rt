@@ -44,9 +44,10 @@ pub extern "C" fn sscf_step(table: &mut [u8], event: &[u8], out: &mut [u8]) -> A
     match checks::planned(&table[..], event, out.len()) {
         Plan::Refused(r) => refused(r),
         Plan::Go { link, next, said } => {
-            let octets = put_all(out, link, said, message(event)) as u32;
+            // The record first: fewer values are held while the signals are written.
             let packed = record::pack(next);
             put_at(table, RECORD * link as usize, &packed);
+            let octets = put_all(out, link, said, message(event)) as u32;
             Answer {
                 refusal: ACCEPTED,
                 octets: octets,

@@ -9,7 +9,7 @@ use Rattle.link.specs.declared.Link.{Link}
 use Rattle.link.specs.declared.Signal.{Signal}
 use Rattle.link.specs.Stored.{signalsOf}
 use Rattle.record.specs.Octets.{over, putAt}
-use Rattle.record.specs.LinkRecord.{octetsOf}
+use Rattle.record.specs.LinkRecord.{recordOctets, octetsOf}
 use Rattle.record.specs.Frame.{EV, linkAt, messageOf}
 use Rattle.record.specs.SignalRecord.{joined}
 use Rattle.record.proofs.Frame.{sound}
@@ -65,17 +65,6 @@ refused-requires c κs = search needs
 enum-known-link : tie.Need-enum-known-link
 enum-known-link c = search needs
 
-message-requires : tie.Need-message-requires
-message-requires c κs = sound EV _ (tk (c .before .before) .sound) .twelve
-
-put-all-requires : tie.Need-put-all-requires
-put-all-requires c κs =
-    let l = c .before .before .before in
-    (omega (arith, fits l (c .message .ensures), tk l .wide), omega (arith, ap length (c .message .ensures), message-small (E l) (tk l .sound)))
-
-cast-octets : tie.Need-cast-octets
-cast-octets c = omega (arith, c .before .before .put-all .ensures .answer, fits (c .before .before .before .before .before .before) (c .before .before .before .message .ensures))
-
 pack-requires : tie.Need-pack-requires
 pack-requires c κs = search needs
 
@@ -90,8 +79,19 @@ slice-aggregate-put-at c = search needs
 
 put-at-requires : tie.Need-put-at-requires
 put-at-requires c κs =
-    let l = c .before .before .before .before .before .before .before .before .before in
+    let l = c .before .before .before .before in
     omega (arith, go l .1, inside (T l) (linkAt (E l)) (tk l .inside), ap length (c .before .before .pack .ensures))
+
+message-requires : tie.Need-message-requires
+message-requires c κs = sound EV _ (tk (c .before .before .before .before .before .before .before .before) .sound) .twelve
+
+put-all-requires : tie.Need-put-all-requires
+put-all-requires c κs =
+    let l = c .before .before .before .before .before .before .before .before .before in
+    (omega (arith, fits l (c .message .ensures), tk l .wide), omega (arith, ap length (c .message .ensures), message-small (E l) (tk l .sound)))
+
+cast-octets : tie.Need-cast-octets
+cast-octets c = omega (arith, c .before .before .put-all .ensures .answer, fits (c .before .before .before .before .before .before .before .before .before .before .before .before) (c .before .before .before .message .ensures))
 
 count-requires : tie.Need-count-requires
 count-requires c κs = search needs
@@ -118,11 +118,12 @@ same-length-3 c = search needs
 returns-2 : tie.Need-returns-2
 returns-2 c =
     let l = c .before .before .before .before .before .before .before .before .before .before .before .before .before in
-    let w = same-octets l (c .before .before .before .before .before .before .before .before .before .before .message .ensures) in
-    let p = c .before .before .before .before .before .before .before .before .before .put-all .ensures in
+    let w = same-octets l (c .before .before .before .before .message .ensures) in
+    let p = c .before .before .before .put-all .ensures in
     let en = p .answer ∙ ap length w in
     let eo = p .written ∙ ap (λ (j : List ℕ). over j (O l)) w in
-    let et : c .before .before .before .put-at .last .0 ≡ putAt (T l) (16 * linkAt (E l)) (octetsOf (N l)) = c .before .before .before .put-at .ensures ∙ (λ i. putAt (T l) (16 * go l .1 i) (c .before .before .before .before .before .before .pack .ensures i)) in
+    let et : c .before .before .before .before .before .before .before .before .put-at .last .0 ≡ putAt (T l) (recordOctets * linkAt (E l)) (octetsOf (N l)) =
+    c .before .before .before .before .before .before .before .before .put-at .ensures ∙ (λ i. putAt (T l) (recordOctets * go l .1 i) (c .before .before .before .before .before .before .before .before .before .before .before .pack .ensures i)) in
     (λ i. answering (answered 0 (en i) (c .count .ensures i)) (et i) (eo i)) ∙ sym (step-accepted (T l) (E l) (O l) (go l .0) (go l .2))
 
 pub sscf-step-spec : {M : Type 1} → statement M
@@ -133,14 +134,14 @@ sscf-step-spec =
     enum-known-r
     refused-requires
     enum-known-link
-    message-requires
-    put-all-requires
-    cast-octets
     pack-requires
     cast-put-at
     mul-put-at
     slice-aggregate-put-at
     put-at-requires
+    message-requires
+    put-all-requires
+    cast-octets
     count-requires
     cast-t27
     same-length
