@@ -12,12 +12,12 @@ abbrev pub ascii : List Char → List ℕ
 ascii [] = []
 ascii (c ∷ others) = code c ∷ ascii others
 
--- the digits of n before some text, of n at most so many
+-- a text with the digits of n before it, k of them at most, none for 0
 abbrev pub before : ℕ → ℕ → List ℕ → List ℕ
 before zero n text = text
 before (suc k) n text = cond (eqb n 0) text (before k (n / 10) ((48 + n % 10) ∷ text))
 
--- A number below 10 ^ 20.
+-- A number below 10 ^ 20: its last digit, and those before it.
 unfoldable pub decimal : ℕ → List ℕ
 decimal n = before 19 (n / 10) ((48 + n % 10) ∷ [])
 
