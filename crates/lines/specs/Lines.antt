@@ -5,7 +5,6 @@ use mathlib.Core.List.{List, [], _∷_, _++_}
 use lib.Dec.{eqb, ltb}
 use lib.ListN.{length}
 use Rattle.table6.specs.declared.State.{State}
-use Rattle.link.specs.declared.Link.{Link}
 use Rattle.record.specs.declared.Slot.{Slot}
 use Rattle.record.specs.Octets.{at}
 use Rattle.record.specs.LinkRecord.{slotOf}

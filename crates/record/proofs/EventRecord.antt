@@ -1,18 +1,17 @@
 -- The event record's round trips. Assumes nothing.
-use Prim.Native.Nat.{ℕ, zero, suc, _+_, _/_, _%_, _≤_, _<_}
+use Prim.Native.Nat.{ℕ, _≤_}
 use native.Mathlib.Omega.{arith}
 use mathlib.Core.Path.{_≡_, refl, sym, ap, subst, _∙_}
 use mathlib.Core.Bool.{Bool, true, false, cond, not, _&&_, _||_, true≢false}
 use mathlib.Core.List.{List, [], _∷_}
 use lib.Dec.{eqb, leb}
-use lib.ListN.{length, drop, length-drop}
-use borrow.Author.Tests.{leb-true, leb-false, eqb-true, not-false, le-leb, eq-eqb}
+use lib.ListN.{length}
+use borrow.Author.Tests.{leb-false, eqb-true, not-false}
 use Rattle.unit.specs.declared.Arrived.{Arrived}
 use Rattle.unit.specs.Unit.{arrived}
 use Rattle.table6.proofs.Every.{left, right}
 use Rattle.link.specs.declared.Num.{Num}
 use Rattle.link.specs.declared.Event.{Event}
-use Rattle.link.specs.declared.Event.the-variants as event
 use Rattle.link.specs.Signal.{num, none}
 use Rattle.record.specs.declared.events.Coded.{Coded}
 use Rattle.record.specs.declared.events.Reading.{Reading}

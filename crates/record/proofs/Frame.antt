@@ -10,7 +10,7 @@ use borrow.Author.Tests.{leb-true, eqb-true, le-leb, eq-eqb}
 use Rattle.table6.proofs.Every.{left, right}
 use Rattle.link.specs.declared.Num.{Num}
 use Rattle.record.specs.Octets.{Octets, at, two}
-use Rattle.record.specs.Frame.{EV, SG, framedAs, written, linkAt, codeAt, paramAt, numberAt, lengthAt, messageOf}
+use Rattle.record.specs.Frame.{framedAs, written, linkAt, codeAt, paramAt, numberAt, lengthAt, messageOf}
 use Rattle.record.proofs.LinkRecord.{octet-at, high-same, low-same}
 
 -- the parts of a sound frame

@@ -6,8 +6,8 @@ use Prim.Native.Nat.{ℕ, zero, suc, _+_, _*_, _/_, _%_, _<_, _≤_}
 use native.Mathlib.Omega.{arith}
 use native.Mathlib.Nat.{div-add-mod'}
 use lib.Dec.{eqb, leb}
-use lib.ListN.{length, getD}
-use borrow.Author.Tests.{eqb-true, leb-true, le-leb, eq-eqb}
+use lib.ListN.{length}
+use borrow.Author.Tests.{eqb-true, leb-true, le-leb}
 use Rattle.unit.specs.declared.Mps.{Mps}
 use Rattle.unit.specs.declared.Ups.{Ups}
 use Rattle.unit.specs.Proving.{mpsCode, upsCode}
@@ -21,7 +21,7 @@ use Rattle.link.specs.Signal.{none}
 use Rattle.record.specs.declared.Slot.{Slot}
 use Rattle.record.specs.Octets.{Octets, at, two, bit}
 use Rattle.record.proofs.Octets.{bit-le}
-use Rattle.record.specs.LinkRecord.{stateCode, stateAt, mpsAt, upsAt, octetsOf, linkOf, wellFormed, slotOf, Unpacked, GoodLink, PackedWell, UnpackedGood, Repacked}
+use Rattle.record.specs.LinkRecord.{stateCode, stateAt, mpsAt, upsAt, octetsOf, linkOf, wellFormed, slotOf, Unpacked, PackedWell, UnpackedGood, Repacked}
 
 state-back : (s : State) → stateAt (stateCode s) ≡ s
 state-back State.S111 = refl

@@ -6,14 +6,14 @@ use native.Mathlib.Nat.{add-mul}
 use native.Mathlib.Numerals.{add-one}
 use native.Mathlib.Omega.{arith}
 use lib.ListN.{length, take, drop, getD, length-append, take-append-drop}
-use lib.Seq.{take-suc, take-add, take-append-seam, drop-append-seam}
+use lib.Seq.{take-suc, take-append-seam, drop-append-seam}
 use Rattle.unit.specs.Unit.{unitOf}
 use Rattle.link.specs.declared.Carries.{Carries}
 use Rattle.link.specs.declared.Signal.{Signal}
 use Rattle.link.specs.Kept.{messagesIn, messages}
 use Rattle.record.specs.Octets.{over, putAt}
 use Rattle.record.specs.Frame.{SG, headOf, written, lengthAt}
-use Rattle.record.specs.SignalRecord.{bodyOf, signalOctets, joined, Put, Says, SignalReread, SignalRewritten, Apart, SignalsApart}
+use Rattle.record.specs.SignalRecord.{bodyOf, signalOctets, joined, Put, SignalReread, SignalRewritten, Apart, SignalsApart}
 use Rattle.record.proofs.Over.{lent, behind}
 use Rattle.record.proofs.Frame.{frame-reread, frame-rewritten, two-back, written-length}
 

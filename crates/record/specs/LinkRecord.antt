@@ -9,8 +9,6 @@ use Rattle.unit.specs.declared.Mps.{Mps}
 use Rattle.unit.specs.declared.Ups.{Ups}
 use Rattle.unit.specs.Proving.{mpsCode, upsCode}
 use Rattle.table6.specs.declared.State.{State}
-use Rattle.link.specs.declared.Num.{Num}
-use Rattle.link.specs.declared.Bsnt.{Bsnt}
 use Rattle.link.specs.declared.Link.{Link}
 use Rattle.link.specs.Kept.{NoneIsZero}
 use Rattle.record.specs.declared.Slot.{Slot}

@@ -1,7 +1,7 @@
 -- What holds of the fresh-table maker on all octets. Assumes nothing.
 use mathlib.Core.Path.{_≡_, refl, sym, ap, _∙_}
-use mathlib.Core.Bool.{Bool, true, false}
-use mathlib.Core.List.{List, [], _∷_, _++_}
+use mathlib.Core.Bool.{true, false}
+use mathlib.Core.List.{List, _++_}
 use Prim.Native.Nat.{ℕ, zero, suc, _+_, _*_, _≤_, _<_}
 use native.Mathlib.Omega.{arith}
 use lib.Dec.{eqb}
@@ -14,7 +14,7 @@ use Rattle.record.proofs.LinkRecord.{octets-length, packed-well}
 use Rattle.sscf.specs.declared.checks.Refusal.{Refusal}
 use Rattle.sscf.specs.Checks.{Verdict, passed, refused, first}
 use Rattle.sscf.specs.Step.{records, recordAt}
-use Rattle.sscf.specs.Fresh.{freshChecks, Made, making, copies, made, freshCall}
+use Rattle.sscf.specs.Fresh.{freshChecks, Made, copies, made, freshCall}
 use Rattle.sscf.specs.Untouched.{FreshRefusalsUntouched, AllFresh, FreshWellFormed}
 use Rattle.sscf.proofs.Places.{clear}
 use Rattle.sscf.proofs.Untouched.{number-above}

@@ -1,6 +1,6 @@
 -- No second answer fits the promise of either call: the answer and every octet lent are fixed by the octets handed in. Assumes nothing.
 use denote.Ref.{now}
-use Rattle.unit.specs.OneAnswer.{OneReading, OneAnswer}
+use Rattle.unit.specs.OneAnswer.{OneReading}
 use Rattle.unit.proofs.OneAnswer.{equal}
 use Rattle.sscf.specs.Step.{Outcome, answering}
 use Rattle.sscf.specs.Fresh.{Made, making}

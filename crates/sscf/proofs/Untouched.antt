@@ -1,9 +1,9 @@
 -- What holds of the two calls on all octets. Each is shown for a refusal and for an acceptance. Assumes nothing.
-use mathlib.Core.Path.{_≡_, refl, sym, ap, subst, _∙_}
-use mathlib.Core.Bool.{Bool, true, false, cond, not, true≢false}
-use mathlib.Core.Logic.{_⊎_, inl, inr, ⊎-elim}
-use mathlib.Core.List.{List, [], _∷_, _++_}
-use Prim.Native.Nat.{ℕ, zero, suc, _+_, _*_, _/_, _%_, _≤_, _<_}
+use mathlib.Core.Path.{_≡_, refl, sym, ap, _∙_}
+use mathlib.Core.Bool.{Bool, true, false, not}
+use mathlib.Core.Logic.{_⊎_, inl, inr}
+use mathlib.Core.List.{List}
+use Prim.Native.Nat.{ℕ, _*_, _≤_, _<_}
 use native.Mathlib.Omega.{arith}
 use lib.Dec.{eqb, ltb}
 use lib.ListN.{length, take, drop}
@@ -19,7 +19,7 @@ use Rattle.record.proofs.Over.{length-over, over-front, over-rest, length-put, 
 use Rattle.record.proofs.LinkRecord.{octets-length, packed-well, unpacked-good}
 use Rattle.sscf.specs.declared.checks.Refusal.{Refusal}
 use Rattle.sscf.specs.Checks.{number, Verdict, passed, refused, first}
-use Rattle.sscf.specs.Step.{records, recordAt, eventOf, linkFor, checks, Outcome, answered, answering, refusedBy, performed, outcome, stepCall}
+use Rattle.sscf.specs.Step.{recordAt, eventOf, linkFor, checks, Outcome, answered, answering, refusedBy, performed, outcome, stepCall}
 use Rattle.sscf.specs.Untouched.{RefusalsUntouched, OthersUntouched, RestUntouched, AtMost4192, SameLengths, Refused4191, Taken4192, Written, AcceptedWritten, StaysWellFormed}
 use Rattle.sscf.proofs.Places.{inside, clear, none}
 use Rattle.sscf.proofs.Taken.{Taken, taken, Makes, made-after, room-for, step-accepted}

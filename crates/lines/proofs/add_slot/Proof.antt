@@ -1,11 +1,10 @@
 -- `add_slot` meets its contract. Assumes nothing.
-use mathlib.Core.Path.{_≡_, sym, ap, _∙_}
-use mathlib.Core.List.{List, [], _∷_, _++_, append-assoc}
-use Prim.Native.Nat.{ℕ, _+_, _≤_}
+use mathlib.Core.Path.{sym, ap, _∙_}
+use mathlib.Core.List.{[], _∷_, _++_, append-assoc}
+use Prim.Native.Nat.{_+_}
 use native.Mathlib.Omega.{arith}
 use borrow.Author.Needs.{needs}
-use Rattle.record.specs.declared.Slot.{Slot}
-use Rattle.lines.specs.Text.{decimal, Added}
+use Rattle.lines.specs.Text.{decimal}
 use Rattle.lines.specs.Lines.{stateName, slotText}
 use Rattle.lines.proofs.Texts.{added-then, added-as}
 use Rattle.lines.proofs.add_slot.Statement.{statement}

@@ -1,14 +1,14 @@
 -- `event_line` meets its contract. Assumes nothing.
-use mathlib.Core.Path.{_≡_, refl, sym, ap, _∙_}
+use mathlib.Core.Path.{_≡_, ap, _∙_}
 use mathlib.Core.List.{List, [], _∷_, _++_, append-assoc}
-use Prim.Native.Nat.{ℕ, _+_, _≤_}
+use Prim.Native.Nat.{ℕ, _+_}
 use native.Mathlib.Nat.{zero-add}
 use native.Mathlib.Omega.{arith}
 use lib.ListN.{length}
 use borrow.Author.Needs.{needs}
 use Rattle.record.specs.Frame.{linkAt, codeAt}
-use Rattle.lines.specs.Text.{decimal, Added}
-use Rattle.lines.specs.Lines.{shown, eventLine}
+use Rattle.lines.specs.Text.{decimal}
+use Rattle.lines.specs.Lines.{shown}
 use Rattle.lines.proofs.Texts.{added-then, added-as}
 use Rattle.lines.proofs.event_line.Statement.{statement}
 use Rattle.lines.proofs.event_line.Tie as tie

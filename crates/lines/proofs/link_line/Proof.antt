@@ -4,7 +4,6 @@ use mathlib.Core.List.{List, [], _∷_, _++_, append-assoc}
 use Prim.Native.Nat.{ℕ}
 use native.Mathlib.Omega.{arith}
 use borrow.Author.Needs.{needs}
-use Rattle.record.specs.declared.Slot.{Slot}
 use Rattle.record.specs.LinkRecord.{slotOf}
 use Rattle.lines.specs.Text.{decimal}
 use Rattle.lines.specs.Lines.{slotText}

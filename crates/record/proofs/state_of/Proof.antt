@@ -1,6 +1,6 @@
 -- `record::state_of` meets its contract. Assumes nothing.
 use mathlib.Core.Path.{refl}
-use mathlib.Core.List.{List, [], _∷_}
+use mathlib.Core.List.{[], _∷_}
 use Rattle.table6.proofs.Lists.{beyond}
 use Rattle.table6.specs.declared.State.{State}
 use borrow.Author.Needs.{needs}

@@ -1,15 +1,14 @@
 -- `text::add_hexadecimal` meets its contract. Assumes nothing.
 use mathlib.Core.Path.{_≡_, refl, sym, ap, _∙_}
-use mathlib.Core.List.{List, [], _∷_, _++_}
-use Prim.Native.Nat.{ℕ, _+_, _-_, _*_, _/_, _%_, _≤_}
+use mathlib.Core.List.{[], _∷_}
+use Prim.Native.Nat.{_+_, _-_, _*_, _/_, _%_, _≤_}
 use native.Mathlib.Omega.{arith}
 use lib.ListN.{length, take, getD}
 use lib.Seq.{take-length}
 use borrow.Author.Needs.{needs}
-use Rattle.record.specs.Octets.{putAt}
 use Rattle.record.proofs.Over.{put-nothing, length-put}
 use Rattle.lines.specs.Text.{digit, hexadecimal, Added}
-use Rattle.lines.proofs.Texts.{hexadecimal-next, hexadecimal-length, added-then}
+use Rattle.lines.proofs.Texts.{hexadecimal-next, added-then}
 use Rattle.lines.proofs.text.add_hexadecimal.Statement.{statement}
 use Rattle.lines.proofs.text.add_hexadecimal.Tie as tie
 

@@ -1,12 +1,11 @@
 -- `signals::put_all` meets its contract. Assumes nothing.
-use mathlib.Core.Path.{_≡_, refl, sym, ap, _∙_}
-use mathlib.Core.List.{List, _++_}
-use Prim.Native.Nat.{ℕ, _+_, _-_, _≤_}
+use mathlib.Core.Path.{_≡_, refl, ap, _∙_}
+use mathlib.Core.List.{_++_}
+use Prim.Native.Nat.{_+_, _-_, _≤_}
 use native.Mathlib.Omega.{arith}
 use lib.ListN.{length, take, drop, getD, length-take, length-drop}
 use lib.Seq.{take-length}
 use borrow.Author.Needs.{needs}
-use Rattle.link.specs.declared.Signal.{Signal}
 use Rattle.link.specs.Stored.{signalsOf, blank}
 use Rattle.record.specs.Octets.{over}
 use Rattle.record.specs.SignalRecord.{joined, bodyOf}

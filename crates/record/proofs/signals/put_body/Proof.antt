@@ -1,9 +1,7 @@
 -- `signals::put_body` meets its contract. Assumes nothing.
-use native.Mathlib.Omega.{arith}
-use mathlib.Core.Path.{ap}
+
 use lib.ListN.{length}
 use borrow.Author.Needs.{needs}
-use Rattle.unit.specs.Unit.{unitOf}
 use Rattle.record.proofs.Over.{put-nothing}
 use Rattle.record.proofs.signals.put_body.Statement.{statement}
 use Rattle.record.proofs.signals.put_body.Tie as tie

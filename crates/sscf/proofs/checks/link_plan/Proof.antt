@@ -1,20 +1,19 @@
 -- `checks::link_plan` meets its contract. Assumes nothing.
 use mathlib.Core.Path.{_≡_, sym, ap, subst, _∙_}
-use mathlib.Core.Bool.{true, false}
+use mathlib.Core.Bool.{false}
 use mathlib.Core.List.{List}
 use Prim.Native.Nat.{ℕ, _<_}
 use lib.Dec.{leb}
 use lib.ListN.{length}
 use borrow.Author.Tests.{le-leb, lt-leb, lt-ltb, le-ltb, eq-eqb}
 use borrow.Author.Needs.{needs}
-use Rattle.link.specs.declared.Event.{Event}
 use Rattle.link.specs.Step as machine
 use Rattle.link.specs.Stored.{signalsOf, heard}
 use Rattle.record.specs.declared.Slot.{Slot}
 use Rattle.record.specs.LinkRecord.{recordOctets, wellFormed, slotOf}
 use Rattle.record.specs.Frame.{linkAt, codeAt}
 use Rattle.record.proofs.LinkRecord.{SlotTold, slot-tells}
-use Rattle.sscf.specs.Step.{records, recordAt, eventOf, linkFor, idle}
+use Rattle.sscf.specs.Step.{records, recordAt, eventOf, idle}
 use Rattle.sscf.proofs.Places.{record-length}
 use Rattle.sscf.proofs.checks.link_plan.Statement.{statement}
 use Rattle.sscf.proofs.checks.link_plan.Tie as tie

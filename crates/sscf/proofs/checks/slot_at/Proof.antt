@@ -1,11 +1,8 @@
 -- `checks::slot_at` meets its contract. Assumes nothing.
-use mathlib.Core.Path.{_≡_, ap, _∙_}
+use mathlib.Core.Path.{_≡_, _∙_}
 use Prim.Native.Nat.{_+_, _*_, _-_}
 use native.Mathlib.Omega.{arith}
-use mathlib.Core.List.{List}
-use lib.ListN.{take, drop}
 use borrow.Author.Needs.{needs}
-use Rattle.record.specs.LinkRecord.{slotOf}
 use Rattle.sscf.proofs.checks.slot_at.Statement.{statement}
 use Rattle.sscf.proofs.checks.slot_at.Tie as tie
 
