@@ -371,7 +371,7 @@ struct sscf_answer {
  *
  * Accepted, it brings the record of that link up to date and writes the signals to the beginning
  * of out. An accepted event may well have none: octets and signals are then 0. No octet changes
- * but in that link's record and in the first `octets` octets of out.
+ * but in that link's record and in the first `octets` octets of out. The record stays well-formed.
  *
  * Refused, it answers the number of the refusal, 0 and 0, and no octet of table or out changes: it
  * is as if the call had not been made.
