@@ -1,7 +1,9 @@
 // What each code of Table 6 does: to every field of a link, and which signals it emits, in their order.
+use crate::Met;
 use crate::cells;
 ghost use mathlib.Core.Path.{_≡_};
 ghost use mathlib.Core.List.{[], _∷_};
+ghost use Rattle.table6.specs.declared.Met.{Met};
 ghost use Rattle.table6.specs.Stored.{changeAt, packed, saysAt};
 
 // Kept as it is.
@@ -59,83 +61,6 @@ pub struct Change(
     pub u8,
     pub u8,
 );
-
-pub fn change_of(code: u8) -> Change
-    ensures { λ r. ⌜ r ≡ changeAt code ⌝ }
-{
-    match code {
-        cells::MESSAGE => Change(K, K, K, K, K, K, K, K, K, K),
-        cells::EMERGENCY => Change(K, K, K, K, UPS_EM, K, K, K, K, K),
-        cells::EMERGENCY_CEASES => Change(K, K, K, K, UPS_NM, K, K, K, K, K),
-        cells::STOP_212 => Change(TO_111, K, K, K, UPS_NM, OFF, OFF, K, K, K),
-        cells::STOP_222 => Change(TO_141, K, K, K, UPS_NM, K, OFF, K, K, K),
-        cells::STOP_242 => Change(TO_141, K, K, K, UPS_NM, K, OFF, K, K, K),
-        cells::STOP_2103 => Change(TO_141, K, K, K, UPS_NM, K, OFF, OFF, K, K),
-        cells::STOP_2104 => Change(TO_141, K, K, K, UPS_NM, K, OFF, K, K, K),
-        cells::STOP_3105 => Change(TO_141, K, K, K, UPS_NM, K, K, K, K, K),
-        cells::START => Change(TO_222, K, K, K, K, K, ON, K, K, K),
-        cells::BSNT_KNOWN => Change(K, K, K, K, K, K, K, K, K, K),
-        cells::BSNT_UNKNOWN => Change(K, K, K, K, K, K, K, K, K, K),
-        cells::RETRIEVAL => Change(K, K, K, K, K, K, K, K, K, K),
-        cells::IGNORED => Change(K, K, K, K, K, K, K, K, K, K),
-        cells::REFUSED_OOS => Change(K, K, K, K, K, K, K, K, K, K),
-        cells::REFUSED_PO => Change(K, K, K, K, K, K, K, K, K, K),
-        cells::RESPONDED => Change(TO_2103, OFF, K, K, K, OFF, K, ON, DECIDED, K),
-        cells::REFUSED_PE => Change(K, K, K, K, K, K, K, K, K, K),
-        cells::CONFIRMED => Change(TO_2103, OFF, K, K, K, K, K, ON, DECIDED, K),
-        cells::CONFIRMED_PE => Change(TO_242, OFF, K, K, K, K, K, K, DECIDED, K),
-        cells::RELEASED => Change(TO_212, K, K, K, K, ON, K, K, K, K),
-        cells::RELEASED_SSCOP => Change(TO_212, K, K, K, K, ON, K, K, K, K),
-        cells::RELEASED_2103 => Change(TO_212, K, K, K, K, ON, K, OFF, K, K),
-        cells::RELEASED_SSCOP_2103 => Change(TO_212, K, K, K, K, ON, K, OFF, K, K),
-        cells::RELEASED_3105 => Change(TO_111, K, K, K, UPS_NM, K, K, K, K, K),
-        cells::RELEASED_SSCOP_3105 => Change(TO_111, K, K, K, UPS_NM, K, K, K, K, K),
-        cells::RELEASE_CONFIRMED_141 => Change(TO_111, K, K, K, K, K, K, K, K, K),
-        cells::RELEASE_CONFIRMED_242 => Change(TO_212, K, K, K, K, ON, K, K, K, K),
-        cells::INS_2103 => Change(K, ON, K, K, K, K, K, K, K, TAKEN),
-        cells::INS_2104 => Change(TO_3105, K, K, K, K, K, OFF, K, K, TAKEN),
-        cells::UNIT_3105 => Change(TO_141, K, K, K, UPS_NM, K, K, K, K, TAKEN),
-        cells::UNIT_TAKEN => Change(K, K, K, K, K, K, K, K, K, TAKEN),
-        cells::LONG_2103 => Change(TO_242, K, K, K, K, K, K, OFF, K, TAKEN),
-        cells::LONG_2104 => Change(TO_242, K, K, K, K, K, K, K, K, TAKEN),
-        cells::LONG_3105 => Change(K, K, K, K, K, K, K, K, K, TAKEN),
-        cells::RESYNC_2103 => Change(TO_242, K, K, K, K, K, K, OFF, K, K),
-        cells::RESYNC_2104 => Change(TO_242, K, K, K, K, K, K, K, K, K),
-        cells::RESYNC_3105 => Change(TO_141, K, K, K, UPS_NM, K, K, K, K, K),
-        cells::RECOVER => Change(K, K, K, K, K, K, K, K, K, K),
-        cells::UNITDATA => Change(K, K, K, K, K, K, K, K, K, K),
-        cells::RETRIEVED => Change(K, K, K, K, K, K, K, K, K, K),
-        cells::RETRIEVE_COMPLETE => Change(K, K, K, K, K, K, K, K, K, K),
-        cells::PROVING_UNSUCCESSFUL => Change(TO_242, K, K, K, K, K, K, OFF, K, K),
-        cells::RELEASE_212 => Change(TO_111, K, K, K, UPS_NM, OFF, OFF, K, K, K),
-        cells::RELEASE_222 => Change(TO_141, K, K, K, UPS_NM, K, OFF, K, K, K),
-        cells::RELEASE_242 => Change(TO_141, K, K, K, UPS_NM, K, OFF, K, K, K),
-        cells::RELEASE_2103 => Change(TO_141, K, K, K, UPS_NM, K, OFF, OFF, K, K),
-        cells::RELEASE_3105 => Change(TO_141, K, K, K, UPS_NM, K, K, K, K, K),
-        cells::OUTAGE => Change(K, K, ON, K, K, K, K, K, K, K),
-        cells::OUTAGE_2104 => Change(TO_141, K, ON, K, UPS_NM, K, OFF, K, K, K),
-        cells::OUTAGE_3105 => Change(TO_141, K, ON, K, UPS_NM, K, K, K, K, K),
-        cells::RECOVERED => Change(K, K, OFF, K, K, K, K, K, K, K),
-        cells::FORCE_PROVING => Change(K, K, K, MPS_NM, K, K, K, K, K, K),
-        cells::FORCE_EMERGENCY => Change(K, K, K, MPS_EM, K, K, K, K, K, K),
-        cells::CLEAR_FORCE_MODES => Change(K, K, K, MPS_N, K, K, K, K, K, K),
-        cells::CONGESTION_2103 => Change(TO_242, K, K, K, K, K, K, OFF, K, K),
-        cells::CONGESTION => Change(K, K, K, K, K, K, K, K, K, K),
-        cells::CEASED_242 => Change(K, K, K, K, K, K, K, K, K, K),
-        cells::CEASED => Change(K, K, K, K, K, K, K, K, K, K),
-        cells::T1_212 => Change(TO_222, K, K, K, K, OFF, K, K, K, K),
-        cells::T2_212 => Change(TO_111, K, K, K, UPS_NM, OFF, OFF, K, K, K),
-        cells::T2_222 => Change(TO_141, K, K, K, UPS_NM, K, OFF, K, K, K),
-        cells::T2_242 => Change(TO_141, K, K, K, UPS_NM, K, OFF, K, K, K),
-        cells::T2_2103 => Change(TO_141, K, K, K, UPS_NM, K, OFF, OFF, K, K),
-        cells::T2_2104 => Change(TO_141, K, K, K, UPS_NM, K, OFF, K, K, K),
-        cells::T3_PROVING => Change(K, K, K, K, K, K, K, ON, LESS, K),
-        cells::T3_ALIGNED => Change(TO_2104, K, K, K, K, K, K, OFF, K, K),
-        cells::T3_IN_SERVICE => Change(TO_3105, K, K, K, K, K, OFF, OFF, K, K),
-        cells::T3_OUTAGE => Change(TO_141, K, K, K, UPS_NM, K, OFF, OFF, K, K),
-        _ => Change(K, K, K, K, K, K, K, K, K, K),
-    }
-}
 
 // The signals that the table uses. The first six carry what the event or the link brings.
 pub const LINK_CONGESTED: u8 = 0;
@@ -274,79 +199,239 @@ fn say5(a: u8, b: u8, c: u8, d: u8, e: u8) -> u64
         + e as u64 * 1099511627776
 }
 
-pub fn says_of(code: u8) -> u64
-    ensures { λ r. ⌜ r ≡ saysAt code ⌝ }
+// What a code does to the link, and its signals. One match for both, so that a step branches once.
+pub fn does(code: u8) -> Met
+    ensures { λ r. ⌜ r ≡ Met.Does (changeAt code) (saysAt code) ⌝ }
 {
     match code {
-        cells::MESSAGE => say2(DATA, REPORT_PDUT),
-        cells::EMERGENCY => say0(),
-        cells::EMERGENCY_CEASES => say0(),
-        cells::STOP_212 => say3(REPORT_OOS, RESET_T1, RESET_T2),
-        cells::STOP_222 => say3(RELEASE_OOS, REPORT_OOS, RESET_T2),
-        cells::STOP_242 => say2(REPORT_OOS, RESET_T2),
-        cells::STOP_2103 => say5(RELEASE_OOS, REPORT_LR_OOS, STOP, RESET_T2, RESET_T3),
-        cells::STOP_2104 => say3(RELEASE_OOS, REPORT_LR_OOS, RESET_T2),
-        cells::STOP_3105 => say2(RELEASE_OOS, REPORT_LR_OOS),
-        cells::START => say3(ESTABLISH_REQUEST, REPORT_ALN, SET_T2),
-        cells::BSNT_KNOWN => say1(BSNT),
-        cells::BSNT_UNKNOWN => say1(BSNT_NOT_RETRIEVABLE),
-        cells::RETRIEVAL => say1(RETRIEVE_REQUEST),
-        cells::IGNORED => say0(),
-        cells::REFUSED_OOS => say1(RELEASE_OOS),
-        cells::REFUSED_PO => say1(RELEASE_PO),
-        cells::RESPONDED => say4(ESTABLISH_RESPONSE, PROVE, RESET_T1, SET_T3),
-        cells::REFUSED_PE => say2(RELEASE_PE, REPORT_LR_PE),
-        cells::CONFIRMED => say2(PROVE, SET_T3),
-        cells::CONFIRMED_PE => say2(RELEASE_PE, REPORT_LR_PE),
-        cells::RELEASED => say2(REPORT_RR_UU, SET_T1),
-        cells::RELEASED_SSCOP => say2(REPORT_SR, SET_T1),
-        cells::RELEASED_2103 => say4(REPORT_RR_UU, STOP, RESET_T3, SET_T1),
-        cells::RELEASED_SSCOP_2103 => say4(REPORT_SR, STOP, RESET_T3, SET_T1),
-        cells::RELEASED_3105 => say2(OUT, REPORT_RR_UU),
-        cells::RELEASED_SSCOP_3105 => say2(OUT, REPORT_SR_OOS),
-        cells::RELEASE_CONFIRMED_141 => say0(),
-        cells::RELEASE_CONFIRMED_242 => say1(SET_T1),
-        cells::INS_2103 => say0(),
-        cells::INS_2104 => say3(IN, REPORT_INS, RESET_T2),
-        cells::UNIT_3105 => say3(RELEASE_PE, OUT, REPORT_LR_OOS_PE),
-        cells::UNIT_TAKEN => say0(),
-        cells::LONG_2103 => say4(REPORT_LR_PE, RELEASE_PE, STOP, RESET_T3),
-        cells::LONG_2104 => say2(RELEASE_PE, REPORT_LR_PE),
-        cells::LONG_3105 => say1(RECEIVED_MESSAGE),
-        cells::RESYNC_2103 => say4(REPORT_LR_PE, RELEASE_PE, STOP, RESET_T3),
-        cells::RESYNC_2104 => say2(REPORT_LR_PE, RELEASE_PE),
-        cells::RESYNC_3105 => say3(RELEASE_PE, OUT, REPORT_LR_OOS_PE),
-        cells::RECOVER => say2(RECOVER_RESPONSE, REPORT_SREC),
-        cells::UNITDATA => say1(REPORT_UDR),
-        cells::RETRIEVED => say1(RETRIEVED_MESSAGES),
-        cells::RETRIEVE_COMPLETE => say1(RETRIEVAL_COMPLETE),
-        cells::PROVING_UNSUCCESSFUL => say2(RELEASE_PNS, RESET_T3),
-        cells::RELEASE_212 => say3(OUT, RESET_T1, RESET_T2),
-        cells::RELEASE_222 => say3(RELEASE_MI, OUT, RESET_T2),
-        cells::RELEASE_242 => say2(OUT, RESET_T2),
-        cells::RELEASE_2103 => say4(RELEASE_MI, OUT, RESET_T2, RESET_T3),
-        cells::RELEASE_3105 => say2(RELEASE_MI, OUT),
-        cells::OUTAGE => say0(),
-        cells::OUTAGE_2104 => say3(RELEASE_PO, OUT, RESET_T2),
-        cells::OUTAGE_3105 => say2(RELEASE_PO, OUT),
-        cells::RECOVERED => say0(),
-        cells::FORCE_PROVING => say0(),
-        cells::FORCE_EMERGENCY => say0(),
-        cells::CLEAR_FORCE_MODES => say0(),
-        cells::CONGESTION_2103 => say4(RELEASE_PNS, REPORT_LR_CD, STOP, RESET_T3),
-        cells::CONGESTION => say2(LINK_CONGESTED, REPORT_CD),
-        cells::CEASED_242 => say1(REPORT_CC),
-        cells::CEASED => say2(CONGESTION_CEASED, REPORT_CC),
-        cells::T1_212 => say1(ESTABLISH_REQUEST),
-        cells::T2_212 => say3(OUT, REPORT_LR_OOS_ANS, RESET_T1),
-        cells::T2_222 => say3(RELEASE_ANS, OUT, REPORT_LR_OOS_ANS),
-        cells::T2_242 => say2(OUT, REPORT_OOS_ANS),
-        cells::T2_2103 => say5(REPORT_LR_OOS_ANS, STOP, OUT, RELEASE_ANS, RESET_T3),
-        cells::T2_2104 => say3(REPORT_LR_OOS_ANS, OUT, RELEASE_ANS),
-        cells::T3_PROVING => say2(UNIT_NM, SET_T3),
-        cells::T3_ALIGNED => say2(STOP, UNIT_INS),
-        cells::T3_IN_SERVICE => say5(STOP, UNIT_INS, REPORT_INS, IN, RESET_T2),
-        cells::T3_OUTAGE => say5(RELEASE_PO, OUT, REPORT_LR_OOS, STOP, RESET_T2),
-        _ => say0(),
+        cells::MESSAGE => Met::Does(
+            Change(K, K, K, K, K, K, K, K, K, K),
+            say2(DATA, REPORT_PDUT),
+        ),
+        cells::EMERGENCY => Met::Does(Change(K, K, K, K, UPS_EM, K, K, K, K, K), say0()),
+        cells::EMERGENCY_CEASES => Met::Does(Change(K, K, K, K, UPS_NM, K, K, K, K, K), say0()),
+        cells::STOP_212 => Met::Does(
+            Change(TO_111, K, K, K, UPS_NM, OFF, OFF, K, K, K),
+            say3(REPORT_OOS, RESET_T1, RESET_T2),
+        ),
+        cells::STOP_222 => Met::Does(
+            Change(TO_141, K, K, K, UPS_NM, K, OFF, K, K, K),
+            say3(RELEASE_OOS, REPORT_OOS, RESET_T2),
+        ),
+        cells::STOP_242 => Met::Does(
+            Change(TO_141, K, K, K, UPS_NM, K, OFF, K, K, K),
+            say2(REPORT_OOS, RESET_T2),
+        ),
+        cells::STOP_2103 => Met::Does(
+            Change(TO_141, K, K, K, UPS_NM, K, OFF, OFF, K, K),
+            say5(RELEASE_OOS, REPORT_LR_OOS, STOP, RESET_T2, RESET_T3),
+        ),
+        cells::STOP_2104 => Met::Does(
+            Change(TO_141, K, K, K, UPS_NM, K, OFF, K, K, K),
+            say3(RELEASE_OOS, REPORT_LR_OOS, RESET_T2),
+        ),
+        cells::STOP_3105 => Met::Does(
+            Change(TO_141, K, K, K, UPS_NM, K, K, K, K, K),
+            say2(RELEASE_OOS, REPORT_LR_OOS),
+        ),
+        cells::START => Met::Does(
+            Change(TO_222, K, K, K, K, K, ON, K, K, K),
+            say3(ESTABLISH_REQUEST, REPORT_ALN, SET_T2),
+        ),
+        cells::BSNT_KNOWN => Met::Does(Change(K, K, K, K, K, K, K, K, K, K), say1(BSNT)),
+        cells::BSNT_UNKNOWN => Met::Does(
+            Change(K, K, K, K, K, K, K, K, K, K),
+            say1(BSNT_NOT_RETRIEVABLE),
+        ),
+        cells::RETRIEVAL => Met::Does(Change(K, K, K, K, K, K, K, K, K, K), say1(RETRIEVE_REQUEST)),
+        cells::IGNORED => Met::Does(Change(K, K, K, K, K, K, K, K, K, K), say0()),
+        cells::REFUSED_OOS => Met::Does(Change(K, K, K, K, K, K, K, K, K, K), say1(RELEASE_OOS)),
+        cells::REFUSED_PO => Met::Does(Change(K, K, K, K, K, K, K, K, K, K), say1(RELEASE_PO)),
+        cells::RESPONDED => Met::Does(
+            Change(TO_2103, OFF, K, K, K, OFF, K, ON, DECIDED, K),
+            say4(ESTABLISH_RESPONSE, PROVE, RESET_T1, SET_T3),
+        ),
+        cells::REFUSED_PE => Met::Does(
+            Change(K, K, K, K, K, K, K, K, K, K),
+            say2(RELEASE_PE, REPORT_LR_PE),
+        ),
+        cells::CONFIRMED => Met::Does(
+            Change(TO_2103, OFF, K, K, K, K, K, ON, DECIDED, K),
+            say2(PROVE, SET_T3),
+        ),
+        cells::CONFIRMED_PE => Met::Does(
+            Change(TO_242, OFF, K, K, K, K, K, K, DECIDED, K),
+            say2(RELEASE_PE, REPORT_LR_PE),
+        ),
+        cells::RELEASED => Met::Does(
+            Change(TO_212, K, K, K, K, ON, K, K, K, K),
+            say2(REPORT_RR_UU, SET_T1),
+        ),
+        cells::RELEASED_SSCOP => Met::Does(
+            Change(TO_212, K, K, K, K, ON, K, K, K, K),
+            say2(REPORT_SR, SET_T1),
+        ),
+        cells::RELEASED_2103 => Met::Does(
+            Change(TO_212, K, K, K, K, ON, K, OFF, K, K),
+            say4(REPORT_RR_UU, STOP, RESET_T3, SET_T1),
+        ),
+        cells::RELEASED_SSCOP_2103 => Met::Does(
+            Change(TO_212, K, K, K, K, ON, K, OFF, K, K),
+            say4(REPORT_SR, STOP, RESET_T3, SET_T1),
+        ),
+        cells::RELEASED_3105 => Met::Does(
+            Change(TO_111, K, K, K, UPS_NM, K, K, K, K, K),
+            say2(OUT, REPORT_RR_UU),
+        ),
+        cells::RELEASED_SSCOP_3105 => Met::Does(
+            Change(TO_111, K, K, K, UPS_NM, K, K, K, K, K),
+            say2(OUT, REPORT_SR_OOS),
+        ),
+        cells::RELEASE_CONFIRMED_141 => Met::Does(
+            Change(TO_111, K, K, K, K, K, K, K, K, K),
+            say0(),
+        ),
+        cells::RELEASE_CONFIRMED_242 => Met::Does(
+            Change(TO_212, K, K, K, K, ON, K, K, K, K),
+            say1(SET_T1),
+        ),
+        cells::INS_2103 => Met::Does(Change(K, ON, K, K, K, K, K, K, K, TAKEN), say0()),
+        cells::INS_2104 => Met::Does(
+            Change(TO_3105, K, K, K, K, K, OFF, K, K, TAKEN),
+            say3(IN, REPORT_INS, RESET_T2),
+        ),
+        cells::UNIT_3105 => Met::Does(
+            Change(TO_141, K, K, K, UPS_NM, K, K, K, K, TAKEN),
+            say3(RELEASE_PE, OUT, REPORT_LR_OOS_PE),
+        ),
+        cells::UNIT_TAKEN => Met::Does(Change(K, K, K, K, K, K, K, K, K, TAKEN), say0()),
+        cells::LONG_2103 => Met::Does(
+            Change(TO_242, K, K, K, K, K, K, OFF, K, TAKEN),
+            say4(REPORT_LR_PE, RELEASE_PE, STOP, RESET_T3),
+        ),
+        cells::LONG_2104 => Met::Does(
+            Change(TO_242, K, K, K, K, K, K, K, K, TAKEN),
+            say2(RELEASE_PE, REPORT_LR_PE),
+        ),
+        cells::LONG_3105 => Met::Does(
+            Change(K, K, K, K, K, K, K, K, K, TAKEN),
+            say1(RECEIVED_MESSAGE),
+        ),
+        cells::RESYNC_2103 => Met::Does(
+            Change(TO_242, K, K, K, K, K, K, OFF, K, K),
+            say4(REPORT_LR_PE, RELEASE_PE, STOP, RESET_T3),
+        ),
+        cells::RESYNC_2104 => Met::Does(
+            Change(TO_242, K, K, K, K, K, K, K, K, K),
+            say2(REPORT_LR_PE, RELEASE_PE),
+        ),
+        cells::RESYNC_3105 => Met::Does(
+            Change(TO_141, K, K, K, UPS_NM, K, K, K, K, K),
+            say3(RELEASE_PE, OUT, REPORT_LR_OOS_PE),
+        ),
+        cells::RECOVER => Met::Does(
+            Change(K, K, K, K, K, K, K, K, K, K),
+            say2(RECOVER_RESPONSE, REPORT_SREC),
+        ),
+        cells::UNITDATA => Met::Does(Change(K, K, K, K, K, K, K, K, K, K), say1(REPORT_UDR)),
+        cells::RETRIEVED => Met::Does(
+            Change(K, K, K, K, K, K, K, K, K, K),
+            say1(RETRIEVED_MESSAGES),
+        ),
+        cells::RETRIEVE_COMPLETE => Met::Does(
+            Change(K, K, K, K, K, K, K, K, K, K),
+            say1(RETRIEVAL_COMPLETE),
+        ),
+        cells::PROVING_UNSUCCESSFUL => Met::Does(
+            Change(TO_242, K, K, K, K, K, K, OFF, K, K),
+            say2(RELEASE_PNS, RESET_T3),
+        ),
+        cells::RELEASE_212 => Met::Does(
+            Change(TO_111, K, K, K, UPS_NM, OFF, OFF, K, K, K),
+            say3(OUT, RESET_T1, RESET_T2),
+        ),
+        cells::RELEASE_222 => Met::Does(
+            Change(TO_141, K, K, K, UPS_NM, K, OFF, K, K, K),
+            say3(RELEASE_MI, OUT, RESET_T2),
+        ),
+        cells::RELEASE_242 => Met::Does(
+            Change(TO_141, K, K, K, UPS_NM, K, OFF, K, K, K),
+            say2(OUT, RESET_T2),
+        ),
+        cells::RELEASE_2103 => Met::Does(
+            Change(TO_141, K, K, K, UPS_NM, K, OFF, OFF, K, K),
+            say4(RELEASE_MI, OUT, RESET_T2, RESET_T3),
+        ),
+        cells::RELEASE_3105 => Met::Does(
+            Change(TO_141, K, K, K, UPS_NM, K, K, K, K, K),
+            say2(RELEASE_MI, OUT),
+        ),
+        cells::OUTAGE => Met::Does(Change(K, K, ON, K, K, K, K, K, K, K), say0()),
+        cells::OUTAGE_2104 => Met::Does(
+            Change(TO_141, K, ON, K, UPS_NM, K, OFF, K, K, K),
+            say3(RELEASE_PO, OUT, RESET_T2),
+        ),
+        cells::OUTAGE_3105 => Met::Does(
+            Change(TO_141, K, ON, K, UPS_NM, K, K, K, K, K),
+            say2(RELEASE_PO, OUT),
+        ),
+        cells::RECOVERED => Met::Does(Change(K, K, OFF, K, K, K, K, K, K, K), say0()),
+        cells::FORCE_PROVING => Met::Does(Change(K, K, K, MPS_NM, K, K, K, K, K, K), say0()),
+        cells::FORCE_EMERGENCY => Met::Does(Change(K, K, K, MPS_EM, K, K, K, K, K, K), say0()),
+        cells::CLEAR_FORCE_MODES => Met::Does(Change(K, K, K, MPS_N, K, K, K, K, K, K), say0()),
+        cells::CONGESTION_2103 => Met::Does(
+            Change(TO_242, K, K, K, K, K, K, OFF, K, K),
+            say4(RELEASE_PNS, REPORT_LR_CD, STOP, RESET_T3),
+        ),
+        cells::CONGESTION => Met::Does(
+            Change(K, K, K, K, K, K, K, K, K, K),
+            say2(LINK_CONGESTED, REPORT_CD),
+        ),
+        cells::CEASED_242 => Met::Does(Change(K, K, K, K, K, K, K, K, K, K), say1(REPORT_CC)),
+        cells::CEASED => Met::Does(
+            Change(K, K, K, K, K, K, K, K, K, K),
+            say2(CONGESTION_CEASED, REPORT_CC),
+        ),
+        cells::T1_212 => Met::Does(
+            Change(TO_222, K, K, K, K, OFF, K, K, K, K),
+            say1(ESTABLISH_REQUEST),
+        ),
+        cells::T2_212 => Met::Does(
+            Change(TO_111, K, K, K, UPS_NM, OFF, OFF, K, K, K),
+            say3(OUT, REPORT_LR_OOS_ANS, RESET_T1),
+        ),
+        cells::T2_222 => Met::Does(
+            Change(TO_141, K, K, K, UPS_NM, K, OFF, K, K, K),
+            say3(RELEASE_ANS, OUT, REPORT_LR_OOS_ANS),
+        ),
+        cells::T2_242 => Met::Does(
+            Change(TO_141, K, K, K, UPS_NM, K, OFF, K, K, K),
+            say2(OUT, REPORT_OOS_ANS),
+        ),
+        cells::T2_2103 => Met::Does(
+            Change(TO_141, K, K, K, UPS_NM, K, OFF, OFF, K, K),
+            say5(REPORT_LR_OOS_ANS, STOP, OUT, RELEASE_ANS, RESET_T3),
+        ),
+        cells::T2_2104 => Met::Does(
+            Change(TO_141, K, K, K, UPS_NM, K, OFF, K, K, K),
+            say3(REPORT_LR_OOS_ANS, OUT, RELEASE_ANS),
+        ),
+        cells::T3_PROVING => Met::Does(
+            Change(K, K, K, K, K, K, K, ON, LESS, K),
+            say2(UNIT_NM, SET_T3),
+        ),
+        cells::T3_ALIGNED => Met::Does(
+            Change(TO_2104, K, K, K, K, K, K, OFF, K, K),
+            say2(STOP, UNIT_INS),
+        ),
+        cells::T3_IN_SERVICE => Met::Does(
+            Change(TO_3105, K, K, K, K, K, OFF, OFF, K, K),
+            say5(STOP, UNIT_INS, REPORT_INS, IN, RESET_T2),
+        ),
+        cells::T3_OUTAGE => Met::Does(
+            Change(TO_141, K, K, K, UPS_NM, K, OFF, OFF, K, K),
+            say5(RELEASE_PO, OUT, REPORT_LR_OOS, STOP, RESET_T2),
+        ),
+        _ => Met::Does(Change(K, K, K, K, K, K, K, K, K, K), say0()),
     }
 }

@@ -50,6 +50,6 @@ pub fn cell(row: u8, state: State, facts: Facts) -> Met
     if cells::ILLEGAL <= last {
         Met::Illegal
     } else {
-        Met::Does(effects::change_of(last), effects::says_of(last))
+        effects::does(last)
     }
 }

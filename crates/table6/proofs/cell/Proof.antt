@@ -8,7 +8,6 @@ use lib.Dec.{leb}
 use Rattle.table6.specs.declared.State.{State}
 use Rattle.table6.specs.declared.Facts.{Facts}
 use Rattle.table6.specs.declared.Met.{Met}
-use Rattle.table6.specs.declared.effects.Change.{Change}
 use Rattle.table6.specs.Summary.{Summed, refused}
 use Rattle.table6.specs.Stored.{codeAt, answer, changeAt, saysAt, metAs, met}
 use Rattle.table6.proofs.Stored.{codeSum, at-each-cell}
@@ -21,8 +20,8 @@ reached row s f p q = rw (q, p) (at-each-cell row s f)
 as-illegal : (s : State) (e : ℕ) {x : Summed} → leb 78 e ≡ true → codeSum s e ≡ x → refused ≡ x
 as-illegal s e t p = rw t at p
 
-as-does : (s : State) (e : ℕ) (g : Change) (w : ℕ) {x : Summed} → leb 78 e ≡ false → g ≡ changeAt e → w ≡ saysAt e → codeSum s e ≡ x → metAs s (Met.Does g w) ≡ x
-as-does s e g w t p q r = rw (p, q) (rw t at r)
+as-does : (s : State) (e : ℕ) {r : Met} {x : Summed} → leb 78 e ≡ false → r ≡ Met.Does (changeAt e) (saysAt e) → codeSum s e ≡ x → metAs s r ≡ x
+as-does s e t p r = rw p (rw t at r)
 
 code-at-requires : tie.Need-code-at-requires
 code-at-requires c κs = search needs
@@ -30,11 +29,8 @@ code-at-requires c κs = search needs
 answered-requires : tie.Need-answered-requires
 answered-requires c κs = search needs
 
-change-of-requires : tie.Need-change-of-requires
-change-of-requires c κs = search needs
-
-says-of-requires : tie.Need-says-of-requires
-says-of-requires c κs = search needs
+does-requires : tie.Need-does-requires
+does-requires c κs = search needs
 
 returns : tie.Need-returns
 returns c =
@@ -44,13 +40,12 @@ returns c =
 
 returns-2 : tie.Need-returns-2
 returns-2 c =
-    let b = c .before .before .before in
+    let b = c .before .before in
     let a = b .before .before .args in
-    as-does (a .state) (b .answered .result) (c .before .change-of .result) (c .says-of .result) (lt-leb _ _ (c .before .before .if1 .left))
-    (c .before .change-of .ensures) (c .says-of .ensures)
+    as-does (a .state) (b .answered .result) (lt-leb _ _ (c .before .if1 .left)) (c .does .ensures)
     (reached (a .row) (a .state) (a .facts) (b .before .code-at .ensures) (b .answered .ensures))
 
 pub cell-spec : {M : Type 1} → statement M
 cell-spec =
     tie.close
-    (tie.spec code-at-requires answered-requires change-of-requires says-of-requires returns returns-2)
+    (tie.spec code-at-requires answered-requires does-requires returns returns-2)
