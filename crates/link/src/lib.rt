@@ -12,11 +12,11 @@ use unit::Mps;
 use unit::Status;
 use unit::Ups;
 ghost use mathlib.Core.Path.{_≡_};
-ghost use mathlib.Core.Bool.{cond};
+ghost use mathlib.Core.Bool.{true, cond};
 ghost use Prim.Native.Nat.{_-_};
 ghost use Rattle.table6.specs.Summary.{over};
 ghost use Rattle.table6.specs.Stored.{flagOp, mpsOp, upsOp, stateOp, countOp, takesOp, changed};
-ghost use Rattle.link.specs.Effect.{with-state, taken};
+ghost use Rattle.link.specs.Effect.{with-state};
 ghost use Rattle.link.specs.Fresh.{freshLink};
 ghost use Rattle.link.specs.Step.{named, stepOf};
 ghost use Rattle.link.specs.Stored.{dataRowOf, t3RowOf, viewOf, factsOf, counted, summedUp, heard};
@@ -262,17 +262,17 @@ fn state_after(x: u8, old: State) -> State
     }
 }
 
-fn bsnt_after(x: u8, n: Num, old: Bsnt) -> Bsnt
-    ensures { λ r. ⌜ r ≡ cond (takesOp x) (taken n) old ⌝ }
+// BSNT goes octet by octet: copied as one it would be packed and unpacked on the way.
+fn octet_after(x: u8, n: u8, old: u8) -> u8
+    ensures { λ r. ⌜ r ≡ cond (takesOp x) n old ⌝ }
 {
-    if x == effects::TAKEN {
-        Bsnt {
-            known: true,
-            num: n,
-        }
-    } else {
-        old
-    }
+    if x == effects::TAKEN { n } else { old }
+}
+
+fn known_after(x: u8, old: bool) -> bool
+    ensures { λ r. ⌜ r ≡ cond (takesOp x) true old ⌝ }
+{
+    if x == effects::TAKEN { true } else { old }
 }
 
 fn one_less(c: u16) -> u16
@@ -300,8 +300,6 @@ fn applied(c: Change, v: View, l: Link) -> Link
     let state = l.state;
     let mps = l.mps;
     let ups = l.ups;
-    let bsnt = l.bsnt;
-    let num = v.2;
     Link {
         state: state_after(c.0, state),
         ins: flag_after(c.1, l.ins),
@@ -311,7 +309,14 @@ fn applied(c: Change, v: View, l: Link) -> Link
         t1: flag_after(c.5, l.t1),
         t2: flag_after(c.6, l.t2),
         t3: flag_after(c.7, l.t3),
-        bsnt: bsnt_after(c.9, num, bsnt),
+        bsnt: Bsnt {
+            known: known_after(c.9, l.bsnt.known),
+            num: Num {
+                a: octet_after(c.9, v.2.a, l.bsnt.num.a),
+                b: octet_after(c.9, v.2.b, l.bsnt.num.b),
+                c: octet_after(c.9, v.2.c, l.bsnt.num.c),
+            },
+        },
         c1: c1_after(c.8, l, v.1),
         n1: l.n1,
     }

@@ -1,19 +1,25 @@
 -- `link::applied` meets its contract: field by field. Assumes nothing.
 use borrow.Author.Needs.{needs}
 use mathlib.Core.Path.{_≡_}
-use mathlib.Core.Bool.{Bool}
+use mathlib.Core.Bool.{Bool, true, false, cond}
 use Prim.Native.Nat.{ℕ}
 use Rattle.unit.specs.declared.Mps.{Mps}
 use Rattle.unit.specs.declared.Ups.{Ups}
 use Rattle.table6.specs.declared.State.{State}
+use Rattle.table6.specs.Stored.{takesOp}
+use Rattle.link.specs.declared.Num.{Num}
 use Rattle.link.specs.declared.Bsnt.{Bsnt}
 use Rattle.link.specs.declared.Link.{Link}
+use Rattle.link.specs.Effect.{taken}
 use Rattle.link.proofs.applied.Statement.{statement}
 use Rattle.link.proofs.applied.Tie as tie
 
 abbrev link : State → Bool → Bool → Mps → Ups → Bool → Bool → Bool → Bsnt → ℕ → ℕ → Link
 link state ins lpo mps ups t1 t2 t3 bsnt c1 n1 =
     record { state = state; ins = ins; lpo = lpo; mps = mps; ups = ups; t1 = t1; t2 = t2; t3 = t3; bsnt = bsnt; c1 = c1; n1 = n1 }
+
+abbrev bsnt : Bool → ℕ → ℕ → ℕ → Bsnt
+bsnt known a b c = record { known = known; num = record { a = a; b = b; c = c } }
 
 each : {s s′ : State} {i i′ : Bool} {l l′ : Bool} {m m′ : Mps} {u u′ : Ups} {a a′ : Bool} {b b′ : Bool} {d d′ : Bool} {n n′ : Bsnt} {k k′ : ℕ} (n1 : ℕ) →
     s ≡ s′ → i ≡ i′ → l ≡ l′ → m ≡ m′ → u ≡ u′ → a ≡ a′ → b ≡ b′ → d ≡ d′ → n ≡ n′ → k ≡ k′ →
@@ -44,24 +50,33 @@ flag-after-requires-4 c κs = search needs
 flag-after-requires-5 : tie.Need-flag-after-requires-5
 flag-after-requires-5 c κs = search needs
 
-bsnt-after-requires : tie.Need-bsnt-after-requires
-bsnt-after-requires c κs = search needs
+known-after-requires : tie.Need-known-after-requires
+known-after-requires c κs = search needs
+
+octet-after-requires : tie.Need-octet-after-requires
+octet-after-requires c κs = search needs
+
+octet-after-requires-2 : tie.Need-octet-after-requires-2
+octet-after-requires-2 c κs = search needs
+
+octet-after-requires-3 : tie.Need-octet-after-requires-3
+octet-after-requires-3 c κs = search needs
 
 c1-after-requires : tie.Need-c1-after-requires
 c1-after-requires c κs = search needs
 
+-- BSNT, from its octets
+held : (b : Bool) (n : Num) (o : Bsnt) {k : Bool} {x y z : ℕ} → k ≡ cond b true (o .known) → x ≡ cond b (n .a) (o .num .a) → y ≡ cond b (n .b) (o .num .b) →
+    z ≡ cond b (n .c) (o .num .c) → bsnt k x y z ≡ cond b (taken n) o
+held true n o p q r t = λ i. bsnt (p i) (q i) (r i) (t i)
+held false n o p q r t = λ i. bsnt (p i) (q i) (r i) (t i)
+
 returns : tie.Need-returns
 returns c =
-    each (c .before .before .before .before .before .before .before .before .before .before .before .before .args .l .n1)
-    (c .before .before .before .before .before .before .before .before .before .state-after .ensures)
-    (c .before .before .before .before .before .before .before .before .flag-after .ensures)
-    (c .before .before .before .before .before .before .before .flag-after2 .ensures)
-    (c .before .before .before .before .before .before .mps-after .ensures)
-    (c .before .before .before .before .before .ups-after .ensures)
-    (c .before .before .before .before .flag-after3 .ensures)
-    (c .before .before .before .flag-after4 .ensures)
-    (c .before .before .flag-after5 .ensures)
-    (c .before .bsnt-after .ensures)
+    let a = c .before .before .before .before .before .before .before .before .before .before .before .before .before .args in
+    each (a .l .n1) (c .before .before .before .before .before .before .before .before .before .before .before .before .state-after .ensures) (c .before .before .before .before .before .before .before .before .before .before .before .flag-after .ensures) (c .before .before .before .before .before .before .before .before .before .before .flag-after2 .ensures) (c .before .before .before .before .before .before .before .before .before .mps-after .ensures) (c .before .before .before .before .before .before .before .before .ups-after .ensures)
+    (c .before .before .before .before .before .before .before .flag-after3 .ensures) (c .before .before .before .before .before .before .flag-after4 .ensures) (c .before .before .before .before .before .flag-after5 .ensures)
+    (held (takesOp (a .c .9)) (a .v .2) (a .l .bsnt) (c .before .before .before .before .known-after .ensures) (c .before .before .before .octet-after .ensures) (c .before .before .octet-after2 .ensures) (c .before .octet-after3 .ensures))
     (c .c1-after .ensures)
 
 pub applied-spec : {M : Type 1} → statement M
@@ -76,6 +91,9 @@ applied-spec =
     flag-after-requires-3
     flag-after-requires-4
     flag-after-requires-5
-    bsnt-after-requires
+    known-after-requires
+    octet-after-requires
+    octet-after-requires-2
+    octet-after-requires-3
     c1-after-requires
     returns)
