@@ -19,13 +19,13 @@ slice-aggregate-put-at : tie.Need-slice-aggregate-put-at
 slice-aggregate-put-at c = search needs
 
 put-at-requires : tie.Need-put-at-requires
-put-at-requires c κs = rw (c .before .before .write .ensures) (rw (c .before .before .before .before .c .given .1) at (c .before .before .before .before .before .before .before .before .pre))
+put-at-requires c κs = rw (c .before .before .write .ensures) (rw (c .before .before .before .before .c .given .1) at (c .before .before .before .before .before .before .before .before .pre .0))
 
 enum-told-2 : tie.Need-enum-told-2
 enum-told-2 c = search needs
 
-put-at-requires-2 : tie.Need-put-at-requires-2
-put-at-requires-2 c κs = rw (c .before .enum-told2 .given .1) at (c .before .before .before .before .before .pre)
+put-message-requires : tie.Need-put-message-requires
+put-message-requires c κs = rw (c .before .enum-told2 .given .1) at (c .before .before .before .before .before .pre)
 
 returns : tie.Need-returns
 returns c = rw (c .enum-told .given .1, put-nothing)
@@ -40,7 +40,7 @@ same-length-2 : tie.Need-same-length-2
 same-length-2 c = search needs
 
 returns-3 : tie.Need-returns-3
-returns-3 c = rw (c .before .before .before .before .enum-told2 .given .1) (c .before .before .put-at2 .ensures)
+returns-3 c = rw (c .before .before .before .before .enum-told2 .given .1) (c .before .before .put-message .ensures)
 
 pub put-body-spec : {M : Type 1} → statement M
 put-body-spec =
@@ -52,7 +52,7 @@ put-body-spec =
     slice-aggregate-put-at
     put-at-requires
     enum-told-2
-    put-at-requires-2
+    put-message-requires
     returns
     same-length
     returns-2
