@@ -6,8 +6,6 @@ use Rattle.unit.specs.OneAnswer.{OneReading, OneAnswer}
 use Rattle.unit.proofs.OneAnswer.{equal}
 use Rattle.record.proofs.wide.Kinds as wide-kinds
 use Rattle.record.proofs.wide.Reads as wide
-use Rattle.record.proofs.state_code.Kinds as state-code-kinds
-use Rattle.record.proofs.state_code.Reads as state-code
 use Rattle.record.proofs.pack.Kinds as pack-kinds
 use Rattle.record.proofs.pack.Reads as pack
 use Rattle.record.proofs.read_link.Kinds as read-link-kinds
@@ -25,9 +23,6 @@ use Rattle.record.proofs.signals.put_all.Reads as put-all
 
 pub wide-one : OneAnswer wide-kinds.ps wide-kinds.r wide.Post
 wide-one κs arguments x y e f = equal
-
-pub state-code-one : OneAnswer state-code-kinds.ps state-code-kinds.r state-code.Post
-state-code-one κs arguments x y e f = equal
 
 pub pack-one : OneAnswer pack-kinds.ps pack-kinds.r pack.Post
 pack-one κs arguments x y e f = equal

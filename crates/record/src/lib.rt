@@ -36,7 +36,7 @@ fn bit_of(b: bool) -> u8
     if b { 1 } else { 0 }
 }
 
-pub fn state_code(s: State) -> u8
+fn state_code(s: State) -> u8
     ensures { λ r. ⌜ r ≡ stateCode s ⌝ }
 {
     match s {
