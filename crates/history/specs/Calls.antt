@@ -1,0 +1,64 @@
+-- Any sequence of the two calls, and what the host saw of each that was accepted. All of it is octets, given to the calls and got from them.
+use Prim.Native.Nat.{ℕ, zero, suc, _+_, _<_}
+use mathlib.Core.Path.{_≡_}
+use mathlib.Core.Bool.{cond}
+use mathlib.Core.List.{List, [], _∷_}
+use lib.Dec.{eqb}
+use lib.ListN.{take, drop}
+use Rattle.record.specs.Frame.{headOctets, lengthAt}
+use Rattle.sscf.specs.Step.{records, Outcome, stepCall}
+use Rattle.sscf.specs.Fresh.{freshCall}
+
+-- "Any sequence of calls": a table made anew in a buffer, or a step on the table that there is. Any octets, of any length; the output is room of its own.
+pub data Call : Type 0 where
+  fresh : (buffer : List ℕ) (n1 : ℕ) → Call
+  step : (event output : List ℕ) → Call
+
+-- What the host saw of an accepted step: the event that it gave, and the signal records that it got.
+pub record Seen : Type 0 where
+  pub event : List ℕ
+  pub signals : List (List ℕ)
+
+-- Of records that stand one behind the other the first n, each as long as its own length says.
+abbrev pub cut : ℕ → List ℕ → List (List ℕ)
+cut zero octets = []
+cut (suc n) octets = take (headOctets + lengthAt octets) octets ∷ cut n (drop (headOctets + lengthAt octets) octets)
+
+-- The signals of a step: as many records as it answered, in the octets of the output that it answered.
+abbrev pub signalsIn : Outcome → List (List ℕ)
+signalsIn after = cut (after .answer .signals) (take (after .answer .octets) (after .output))
+
+-- The table with its history: the n1 that it was made with, and every accepted step since, the latest first.
+pub record World : Type 0 where
+  pub table : List ℕ
+  pub n1 : ℕ
+  pub seen : List Seen
+
+-- "A table made anew begins a new history."
+abbrev pub made : List ℕ → ℕ → World
+made buffer n1 = record { table = freshCall buffer n1 .table; n1 = n1; seen = [] }
+
+-- "A refused call counts as nothing": the table is what the step left, and the history is longer only where the step answered 0.
+abbrev pub stepped : World → List ℕ → Outcome → World
+stepped w e after =
+    record {
+      table = after .table;
+      n1 = w .n1;
+      seen = cond (eqb (after .answer .refusal) 0) (record { event = e; signals = signalsIn after } ∷ w .seen) (w .seen);
+    }
+
+-- One call. What made no table leaves the table that there is.
+unfoldable pub next : World → Call → World
+next w (fresh buffer n1) = cond (eqb (freshCall buffer n1 .answer) 0) (made buffer n1) w
+next w (step e o) = stepped w e (stepCall (w .table) e o)
+
+unfoldable pub run : World → List Call → World
+run w [] = w
+run w (c ∷ calls) = run (next w c) calls
+
+-- "Take a fresh table altered only by these calls, and any sequence of calls. After each call": what then holds of each link of the table. Every sequence is
+-- meant, so every beginning of one too.
+abbrev pub AfterEachCall : (World → ℕ → Type 0) → Type 0
+AfterEachCall P =
+    (buffer : List ℕ) (n1 : ℕ) → freshCall buffer n1 .answer ≡ 0 →
+    (calls : List Call) (link : ℕ) → link < records (run (made buffer n1) calls .table) → P (run (made buffer n1) calls) link

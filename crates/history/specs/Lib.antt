@@ -1,0 +1,5 @@
+pub mod Calls
+pub mod History
+pub mod Demand
+pub mod Register
+pub mod Tests
