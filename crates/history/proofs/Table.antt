@@ -1,0 +1,258 @@
+-- THE TEST OVER TABLE 6, computed: in every cell the marks of the event and of its signals, and what becomes of the record, lead from what a link's state says of its
+-- history to what its next state says. Beside it the law that turns the test into what holds of a choice. Only the line `table-ok` depends on what the table
+-- contains. Assumes nothing.
+use mathlib.Core.Path.{_≡_, refl, ap, subst}
+use mathlib.Core.Bool.{Bool, true, false, cond, not, _&&_, _||_, Bool·beq, true≢false, false≢true}
+use mathlib.Core.List.{List, [], _∷_, _++_, append-assoc, append-nil}
+use mathlib.Core.Option.{Option, none, some}
+use Prim.Native.Nat.{ℕ, zero, suc}
+use lib.Dec.{eqb, leb}
+use lib.ListN.{getD}
+use Rattle.unit.specs.declared.Mps.{Mps}
+use Rattle.unit.specs.declared.Ups.{Ups}
+use Rattle.unit.specs.Proving.{mpsCode, upsCode}
+use Rattle.table6.specs.declared.State.{State}
+use Rattle.table6.specs.declared.Facts.{Facts}
+use Rattle.table6.specs.Cell.{Act, AAL-RECEIVED-MESSAGE-indication, AAL-LINK-CONGESTED-indication, AAL-LINK-CONGESTION-CEASED-indication, AAL-IN-SERVICE-indication, AAL-OUT-OF-SERVICE-indication, AAL-RETRIEVED-MESSAGES-indication, AAL-RETRIEVAL-COMPLETE-indication, AAL-BSNT-confirm, AAL-BSNT-NOT-RETRIEVABLE-confirm, AA-ESTABLISH-request, AA-ESTABLISH-response, AA-RELEASE-request, AA-DATA-request, AA-RECOVER-response, AA-RETRIEVE-request, MAAL-PROVING-indication, MAAL-STOP-PROVING-indication, MAAL-REPORT-indication, Set-UPS=NM, Set-UPS=EM, Set-MPS=N, Set-MPS=NM, Set-MPS=EM, Set-LPO=0, Set-LPO=1, Set-INS-flag, Reset-INS-flag, Generate-N1, Set-C1=N1, Decrement-C1, Set, Reset, connection-up, take-BSNT, end, Cond, LPO=0, LPO=0&INS=0, LPO=0&INS=1, UU=EM-or-NM, Source=User, BSNT-available, MU>4, holds, Cell, Illegal, to, _⨟_, IF_THEN_ELSE_, Row, cell, Choice, illegal, does, after, chosen}
+use Rattle.table6.specs.Table6.{AAL-MESSAGE-FOR-TRANSMISSION-request, AAL-EMERGENCY-request, AAL-EMERGENCY-CEASES-request, AAL-STOP-request, AAL-START-request, AAL-RETRIEVE-BSNT-request, AAL-RETRIEVAL-REQUEST-AND-FSNC-request, AAL-FLUSH-BUFFERS-request, AAL-CONTINUE-request, AA-ESTABLISH-indication-with-EM-NM, AA-ESTABLISH-indication-with-others, AA-ESTABLISH-confirm-with-EM-NM, AA-ESTABLISH-confirm-with-others, AA-RELEASE-indication-from-User, AA-RELEASE-indication-from-SSCOP, AA-RELEASE-confirm, AA-DATA-indication-with-INS, AA-DATA-indication-with-NM, AA-DATA-indication-with-other, AA-DATA-indication-with-MU>4, AA-RESYNC-indication, AA-RECOVER-indication, AA-UNITDATA-indication, AA-RETRIEVE-indication, AA-RETRIEVE-COMPLETE-indication, MAAL-PROVING-UNSUCCESSFUL-response, MAAL-RELEASE-request, MAAL-LOCAL-PROCESSOR-OUTAGE-request, MAAL-LOCAL-PROCESSOR-RECOVERED-request, MAAL-FORCE-PROVING-request, MAAL-FORCE-EMERGENCY-request, MAAL-CLEAR-FORCE-MODES-request, Local-Congestion, Local-Congestion-Ceased, T1-expires, T2-expires, T3-expires-and-C1>0, T3-expires-and-C1=0}
+use Rattle.table6.specs.Order.{signals}
+use Rattle.table6.specs.Rows.{Printed, one, two, printed, Heading, rows, nowhere}
+use Rattle.table6.specs.Summary.{Op, keep, put, over, Count, same, decided, less, Summary, still, summary}
+use Rattle.table6.proofs.Every.{left, right}
+use Rattle.link.specs.declared.Num.{Num}
+use Rattle.link.specs.declared.Carries.{Carries}
+use Rattle.link.specs.declared.Signal.{Signal}
+use Rattle.link.specs.Signal as link
+use Rattle.link.specs.Signal.{signalOf}
+use Rattle.history.proofs.Walk.{Base, held, new, Conn, dead, live, Abs, abs, Kind, quiet, stops, confirms, releases, hears, wishes, forces, ruleSignal, ruleEvent}
+
+-- WHAT A STATE SAYS of the history, with the INS flag: no connection; or one on which the INS unit was sent or not, the peer's was received or not, and C1 is
+-- known to be 0 or not.
+pub data Now : Type 0 where
+  down : Now
+  on : Bool → Bool → Bool → Now
+
+abbrev pub serving : State → Bool
+serving State.S111 = false
+serving State.S141 = false
+serving State.S212 = false
+serving State.S222 = false
+serving State.S242 = false
+serving State.S2103 = false
+serving State.S2104 = false
+serving State.S3105 = true
+
+abbrev pub now : State → Bool → Now
+now State.S111 flag = down
+now State.S141 flag = down
+now State.S212 flag = down
+now State.S222 flag = down
+now State.S242 flag = down
+now State.S2103 flag = on false flag false
+now State.S2104 flag = on true false true
+now State.S3105 flag = on true true true
+
+-- WHAT AN EVENT SAYS: its mark, and whether C1 is 0, whether it is above 0, whether the parameter that the cell sees is the event's own, whether the message is
+-- long.
+pub record Sort : Type 0 where
+  pub mark : Kind
+  pub zero : Bool
+  pub above : Bool
+  pub field : Bool
+  pub long : Bool
+
+abbrev pub plain : Kind → Sort
+plain k = record { mark = k; zero = false; above = false; field = false; long = false }
+
+abbrev pub sorts : List Sort
+sorts =
+    record { mark = quiet; zero = false; above = false; field = false; long = true }  -- MESSAGE_FOR_TRANSMISSION
+    ∷ plain (wishes Ups.Emergency)
+    ∷ plain (wishes Ups.Normal)
+    ∷ plain stops
+    ∷ plain quiet  -- START
+    ∷ plain quiet  -- RETRIEVE_BSNT
+    ∷ plain quiet  -- RETRIEVAL_REQUEST_AND_FSNC
+    ∷ plain quiet  -- FLUSH_BUFFERS
+    ∷ plain quiet  -- CONTINUE
+    ∷ record { mark = quiet; zero = false; above = false; field = true; long = false }  -- ESTABLISH-indication
+    ∷ record { mark = confirms; zero = false; above = false; field = true; long = false }
+    ∷ plain releases
+    ∷ plain quiet  -- RELEASE-confirm
+    ∷ plain hears
+    ∷ plain quiet  -- DATA, NM
+    ∷ plain quiet  -- DATA, other
+    ∷ plain quiet  -- DATA, long
+    ∷ plain quiet  -- RESYNC
+    ∷ plain quiet  -- RECOVER
+    ∷ plain quiet  -- UNITDATA
+    ∷ plain quiet  -- RETRIEVE
+    ∷ plain quiet  -- RETRIEVE_COMPLETE
+    ∷ plain quiet  -- PROVING_UNSUCCESSFUL
+    ∷ plain quiet  -- RELEASE
+    ∷ plain quiet  -- outage
+    ∷ plain quiet  -- recovered
+    ∷ plain (forces Mps.Normal)
+    ∷ plain (forces Mps.Emergency)
+    ∷ plain (forces Mps.Neutral)
+    ∷ plain quiet  -- congestion
+    ∷ plain quiet  -- congestion ceased
+    ∷ plain quiet  -- T1
+    ∷ plain quiet  -- T2
+    ∷ record { mark = quiet; zero = false; above = true; field = false; long = false }  -- T3, C1 > 0
+    ∷ record { mark = quiet; zero = true; above = false; field = false; long = false }  -- T3, C1 = 0
+    ∷ []
+
+-- THE TEST
+
+abbrev pub begin : Now → Conn
+begin down = dead
+begin (on a g z) = live a g held 0
+
+-- all units have been sent
+abbrev pub level : Sort → Now → Bool
+level s down = false
+level s (on a g z) = z || s .zero
+
+-- the code of an action's signal and what it carries, which no parameter changes
+abbrev pub sign : Act → Signal
+sign a = signalOf 0 link.none Mps.Neutral Ups.Normal link.none a
+
+abbrev pub told : Bool → Sort → List Act → Option Abs → Option Abs
+told z s [] o = o
+told z s (a ∷ acts) none = none
+told z s (a ∷ acts) (some A) = told z s acts (ruleSignal z (s .long) (sign a .code) (sign a .carries) A)
+
+-- a count takes exactly n from C1; it is what Table 7 decides
+abbrev pub takes : Count → ℕ → Bool
+takes same n = eqb n 0
+takes decided n = false
+takes (less c) zero = false
+takes (less c) (suc n) = takes c n
+
+abbrev pub decides : Count → Bool
+decides same = false
+decides decided = true
+decides (less c) = false
+
+abbrev pub least : Sort → ℕ
+least s = cond (s .above) 1 0
+
+abbrev pub counts : Sort → Count → Base → ℕ → Bool
+counts s c held n = takes c n && leb n (least s)
+counts s c new n = decides c && (eqb n 0 && s .field)
+
+abbrev pub still-level : Bool → Base → Bool
+still-level z held = z
+still-level z new = false
+
+abbrev pub sameOp : {A : Type 0} → (A → ℕ) → Op A → Op A → Bool
+sameOp code keep keep = true
+sameOp code keep (put y) = false
+sameOp code (put x) keep = false
+sameOp code (put x) (put y) = eqb (code x) (code y)
+
+abbrev pub fits : Bool → Sort → Count → Conn → Now → Bool
+fits z s c dead down = true
+fits z s c dead (on a g k) = false
+fits z s c (live a g b n) down = false
+fits z s c (live a g b n) (on a′ g′ k) = Bool·beq a a′ && (Bool·beq g g′ && (counts s c b n && (not k || still-level z b)))
+
+abbrev pub ends : Bool → Sort → Bool → Summary → State → Option Abs → Bool
+ends z s flag r next none = false
+ends z s flag r next (some (abs st c u m)) =
+    Bool·beq st (serving next) && (sameOp upsCode u (r .ups) && (sameOp mpsCode m (r .mps) && fits z s (r .c1) c (now next (over (r .ins) flag))))
+
+-- the actions of an alternative, behind what the event does by itself
+abbrev pub leads : Sort → State → Bool → List Act → List Act → State → Bool
+leads s st flag arrives acts next =
+    ends (level s (now st flag)) s flag (summary (arrives ++ acts) still) next
+    (told (level s (now st flag)) s (signals acts) (ruleEvent (s .mark) (abs (serving st) (begin (now st flag)) keep keep)))
+
+-- a condition that cannot hold at this INS flag
+abbrev never : Cond → Bool → Bool
+never LPO=0 flag = false
+never LPO=0&INS=0 flag = flag
+never LPO=0&INS=1 flag = not flag
+never UU=EM-or-NM flag = false
+never Source=User flag = false
+never BSNT-available flag = false
+never MU>4 flag = false
+
+abbrev pub in-cell : (List Act → State → Bool) → Bool → List Act → Cell → Bool
+in-cell t flag acts Illegal = true
+in-cell t flag acts (to next) = t acts next
+in-cell t flag acts (a ⨟ c) = in-cell t flag (acts ++ a ∷ []) c
+in-cell t flag acts (IF q THEN c ELSE d) = cond (never q flag) true (in-cell t flag acts c) && in-cell t flag acts d
+
+abbrev pub in-row : Sort → State → Bool → List Act → Row → Bool
+in-row s st flag arrives r = in-cell (leads s st flag arrives) flag [] (cell r st)
+
+abbrev pub in-printed : Sort → State → Bool → List Act → Printed → Bool
+in-printed s st flag arrives (one r) = in-row s st flag arrives r
+in-printed s st flag arrives (two q r w) = in-row s st flag arrives r && in-row s st flag arrives w
+
+abbrev pub in-rows : State → Bool → List Sort → List Heading → Bool
+in-rows st flag [] [] = true
+in-rows st flag [] (h ∷ hs) = false
+in-rows st flag (s ∷ ss) [] = false
+in-rows st flag (s ∷ ss) (h ∷ hs) = in-printed s st flag (h .arrives) (h .row) && in-rows st flag ss hs
+
+table-ok : (st : State) (flag : Bool) → in-rows st flag sorts rows ≡ true
+unfolding AAL-MESSAGE-FOR-TRANSMISSION-request AAL-EMERGENCY-request AAL-EMERGENCY-CEASES-request AAL-STOP-request AAL-START-request AAL-RETRIEVE-BSNT-request AAL-RETRIEVAL-REQUEST-AND-FSNC-request AAL-FLUSH-BUFFERS-request AAL-CONTINUE-request AA-ESTABLISH-indication-with-EM-NM AA-ESTABLISH-indication-with-others AA-ESTABLISH-confirm-with-EM-NM AA-ESTABLISH-confirm-with-others AA-RELEASE-indication-from-User AA-RELEASE-indication-from-SSCOP AA-RELEASE-confirm AA-DATA-indication-with-INS AA-DATA-indication-with-NM AA-DATA-indication-with-other AA-DATA-indication-with-MU>4 AA-RESYNC-indication AA-RECOVER-indication AA-UNITDATA-indication AA-RETRIEVE-indication AA-RETRIEVE-COMPLETE-indication MAAL-PROVING-UNSUCCESSFUL-response MAAL-RELEASE-request MAAL-LOCAL-PROCESSOR-OUTAGE-request MAAL-LOCAL-PROCESSOR-RECOVERED-request MAAL-FORCE-PROVING-request MAAL-FORCE-EMERGENCY-request MAAL-CLEAR-FORCE-MODES-request Local-Congestion Local-Congestion-Ceased T1-expires T2-expires T3-expires-and-C1>0 T3-expires-and-C1=0
+table-ok State.S111 false = refl
+table-ok State.S111 true = refl
+table-ok State.S141 false = refl
+table-ok State.S141 true = refl
+table-ok State.S212 false = refl
+table-ok State.S212 true = refl
+table-ok State.S222 false = refl
+table-ok State.S222 true = refl
+table-ok State.S242 false = refl
+table-ok State.S242 true = refl
+table-ok State.S2103 false = refl
+table-ok State.S2103 true = refl
+table-ok State.S2104 false = refl
+table-ok State.S2104 true = refl
+table-ok State.S3105 false = refl
+table-ok State.S3105 true = refl
+
+-- FROM THE TEST TO A CHOICE
+
+pub sign-of : (p : ℕ) (n : Num) (m : Mps) (u : Ups) (b : Num) (a : Act) →
+    (signalOf p n m u b a .code ≡ sign a .code) × (signalOf p n m u b a .carries ≡ sign a .carries)
+sign-of p n m u b AAL-RECEIVED-MESSAGE-indication = (refl, refl)
+sign-of p n m u b AAL-LINK-CONGESTED-indication = (refl, refl)
+sign-of p n m u b AAL-LINK-CONGESTION-CEASED-indication = (refl, refl)
+sign-of p n m u b AAL-IN-SERVICE-indication = (refl, refl)
+sign-of p n m u b AAL-OUT-OF-SERVICE-indication = (refl, refl)
+sign-of p n m u b AAL-RETRIEVED-MESSAGES-indication = (refl, refl)
+sign-of p n m u b AAL-RETRIEVAL-COMPLETE-indication = (refl, refl)
+sign-of p n m u b AAL-BSNT-confirm = (refl, refl)
+sign-of p n m u b AAL-BSNT-NOT-RETRIEVABLE-confirm = (refl, refl)
+sign-of p n m u b AA-ESTABLISH-request = (refl, refl)
+sign-of p n m u b AA-ESTABLISH-response = (refl, refl)
+sign-of p n m u b (AA-RELEASE-request uu) = (refl, refl)
+sign-of p n m u b (AA-DATA-request x) = (refl, refl)
+sign-of p n m u b AA-RECOVER-response = (refl, refl)
+sign-of p n m u b AA-RETRIEVE-request = (refl, refl)
+sign-of p n m u b MAAL-PROVING-indication = (refl, refl)
+sign-of p n m u b MAAL-STOP-PROVING-indication = (refl, refl)
+sign-of p n m u b (MAAL-REPORT-indication x y z) = (refl, refl)
+sign-of p n m u b Set-UPS=NM = (refl, refl)
+sign-of p n m u b Set-UPS=EM = (refl, refl)
+sign-of p n m u b Set-MPS=N = (refl, refl)
+sign-of p n m u b Set-MPS=NM = (refl, refl)
+sign-of p n m u b Set-MPS=EM = (refl, refl)
+sign-of p n m u b Set-LPO=0 = (refl, refl)
+sign-of p n m u b Set-LPO=1 = (refl, refl)
+sign-of p n m u b Set-INS-flag = (refl, refl)
+sign-of p n m u b Reset-INS-flag = (refl, refl)
+sign-of p n m u b Generate-N1 = (refl, refl)
+sign-of p n m u b Set-C1=N1 = (refl, refl)
+sign-of p n m u b Decrement-C1 = (refl, refl)
+sign-of p n m u b (Set t) = (refl, refl)
+sign-of p n m u b (Reset t) = (refl, refl)
+sign-of p n m u b connection-up = (refl, refl)
+sign-of p n m u b take-BSNT = (refl, refl)
+sign-of p n m u b (end t) = (refl, refl)

@@ -1,0 +1,299 @@
+-- What the marks of one event do to a link's history, computed from their codes alone; and that it is so. Assumes nothing.
+use mathlib.Core.Path.{_≡_, refl, sym, ap, subst, _∙_}
+use mathlib.Core.Bool.{Bool, true, false, cond, _&&_, _||_, true≢false}
+use mathlib.Core.List.{List, [], _∷_}
+use mathlib.Core.Option.{Option, none, some}
+use Prim.Native.Nat.{ℕ, zero, suc, _+_}
+use native.Mathlib.Omega.{arith}
+use lib.Dec.{eqb}
+use borrow.Author.Tests.{eqb-true, eq-eqb}
+use Rattle.unit.specs.declared.Status.{Status}
+use Rattle.unit.specs.declared.Arrived.{Arrived}
+use Rattle.unit.specs.declared.Mps.{Mps}
+use Rattle.unit.specs.declared.Ups.{Ups}
+use Rattle.unit.specs.Unit.{unitOf, kind, arrived}
+use Rattle.unit.specs.Proving.{asked, table7}
+use Rattle.table6.specs.Summary.{Op, keep, put, over}
+use Rattle.link.specs.declared.Carries.{Carries}
+use Rattle.record.specs.SignalRecord.{bodyOf}
+use Rattle.history.specs.History.{Mark, accepted, emitted, isINS, mps, ups, field}
+use Rattle.history.specs.Tests.{stands, alive, sent, due, toldIns, heardIns}
+
+-- THE HISTORY, ABSTRACTLY. A connection is the one of before the event, or it came up in it; INS sent, INS received, how many units were sent in the event. Then
+-- what has become of UPS and of MPS, as the history tells them.
+pub data Base : Type 0 where
+  held new : Base
+
+pub data Conn : Type 0 where
+  dead : Conn
+  live : Bool → Bool → Base → ℕ → Conn
+
+pub data Abs : Type 0 where
+  abs : Bool → Conn → Op Ups → Op Mps → Abs
+
+-- What the event found: n1, UPS, MPS, the units sent and due on the connection, whether these are known to be as many; and the event's field.
+pub record Found : Type 0 where
+  pub n1 : ℕ
+  pub ups : Ups
+  pub mps : Mps
+  pub sent : ℕ
+  pub due : ℕ
+  pub level : Bool
+  pub field : ℕ
+
+abbrev pub wanted : Found → ℕ
+wanted f = table7 (f .mps) (f .ups) (asked (f .field)) (f .n1)
+
+abbrev pub sentAt : Found → Base → ℕ
+sentAt f held = f .sent
+sentAt f new = 0
+
+abbrev pub dueAt : Found → Base → ℕ
+dueAt f held = f .due
+dueAt f new = wanted f
+
+abbrev pub ConnIs : Found → Conn → List Mark → Type 0
+ConnIs f dead h = alive h ≡ false
+ConnIs f (live a g b n) h = (alive h ≡ true) × (toldIns (f .n1) h ≡ a) × (heardIns h ≡ g) × (sent h ≡ n + sentAt f b) × (due (f .n1) h ≡ dueAt f b)
+
+abbrev pub Is : Found → Abs → List Mark → Type 0
+Is f (abs s c u m) h = (stands h ≡ s) × ConnIs f c h × (ups h ≡ over u (f .ups)) × (mps h ≡ over m (f .mps)) × (field h ≡ f .field)
+
+abbrev pub Is? : Found → Option Abs → List Mark → Type 0
+Is? f none h = Unit {0}
+Is? f (some A) h = Is f A h
+
+-- RULES. A rule that gives nothing is a place where Table 6 never comes.
+abbrev ruleIn : Abs → Option Abs
+ruleIn (abs s c u m) = some (abs true c u m)
+
+abbrev ruleOut : Abs → Option Abs
+ruleOut (abs s c u m) = some (abs false c (put Ups.Normal) m)
+
+abbrev ruleUp : Abs → Option Abs
+ruleUp (abs s c keep keep) = some (abs s (live false false new 0) keep keep)
+ruleUp (abs s c keep (put x)) = none
+ruleUp (abs s c (put x) m) = none
+
+abbrev ruleReleased : Abs → Option Abs
+ruleReleased (abs s c u m) = some (abs s dead u m)
+
+abbrev ruleProving : Abs → Option Abs
+ruleProving (abs s dead u m) = none
+ruleProving (abs s (live a g b n) u m) = some (abs s (live a g b (suc n)) u m)
+
+-- the INS unit, where all units are known to have been sent
+abbrev ruleIns : Bool → Abs → Option Abs
+ruleIns level (abs s dead u m) = none
+ruleIns level (abs s (live a g new n) u m) = none
+ruleIns level (abs s (live a g held zero) u m) = cond level (some (abs s (live true g held zero) u m)) none
+ruleIns level (abs s (live a g held (suc n)) u m) = none
+
+abbrev ruleHeard : Abs → Option Abs
+ruleHeard (abs s dead u m) = some (abs s dead u m)
+ruleHeard (abs s (live a g b n) u m) = some (abs s (live a true b n) u m)
+
+-- Signals. `long`: the event's own message has more than four octets, so it is no unit.
+abbrev ruleUnit : Bool → Status → Abs → Option Abs
+ruleUnit level Status.OOS A = none
+ruleUnit level Status.PO A = none
+ruleUnit level Status.INS A = ruleIns level A
+ruleUnit level Status.NM A = ruleProving A
+ruleUnit level Status.EM A = none
+ruleUnit level Status.ANS A = none
+ruleUnit level Status.MI A = none
+ruleUnit level Status.PE A = none
+ruleUnit level Status.PNS A = none
+
+abbrev ruleData : Bool → Bool → Carries → Abs → Option Abs
+ruleData level long Carries.Nothing A = none
+ruleData level long (Carries.Unit s) A = ruleUnit level s A
+ruleData level long Carries.Message A = cond long (some A) none
+
+abbrev pub ruleSignal : Bool → Bool → ℕ → Carries → Abs → Option Abs
+ruleSignal level long c b A =
+    cond (eqb c 4) (ruleIn A) (cond (eqb c 5) (ruleOut A) (cond (eqb c 17) (ruleUp A) (cond (eqb c 18) (ruleReleased A) (cond (eqb c 19) (ruleData level long b A) (some A)))))
+
+-- Events, as marks.
+pub data Kind : Type 0 where
+  quiet stops confirms releases hears : Kind
+  wishes : Ups → Kind
+  forces : Mps → Kind
+
+abbrev pub ruleEvent : Kind → Abs → Option Abs
+ruleEvent quiet A = some A
+ruleEvent stops A = ruleOut A
+ruleEvent confirms A = ruleUp A
+ruleEvent releases A = ruleReleased A
+ruleEvent hears A = ruleHeard A
+ruleEvent (wishes x) (abs s c u m) = some (abs s c (put x) m)
+ruleEvent (forces x) (abs s c u m) = some (abs s c u (put x))
+
+-- an event's code, and what arrived with it, are of a kind
+abbrev any : List Bool → Bool
+any [] = false
+any (b ∷ bs) = b || any bs
+
+abbrev Each : List Bool → Type 0
+Each [] = Unit {0}
+Each (b ∷ bs) = (b ≡ false) × Each bs
+
+each : (bs : List Bool) → any bs ≡ false → Each bs
+each [] e = tt
+each (true ∷ bs) e = absurd (true≢false e)
+each (false ∷ bs) e = (refl, each bs e)
+
+abbrev counting : ℕ → Arrived → List Bool
+counting c a = eqb c 2 ∷ eqb c 3 ∷ eqb c 4 ∷ eqb c 17 ∷ eqb c 18 ∷ eqb c 36 ∷ eqb c 37 ∷ eqb c 38 ∷ (eqb c 20 && isINS a) ∷ []
+
+abbrev pub Of : Kind → ℕ → Arrived → Type 0
+Of quiet c a = any (counting c a) ≡ false
+Of stops c a = c ≡ 4
+Of confirms c a = c ≡ 17
+Of releases c a = c ≡ 18
+Of hears c a = (c ≡ 20) × (a ≡ Arrived.INS)
+Of (wishes Ups.Emergency) c a = c ≡ 2
+Of (wishes Ups.Normal) c a = c ≡ 3
+Of (forces Mps.Normal) c a = c ≡ 36
+Of (forces Mps.Emergency) c a = c ≡ 37
+Of (forces Mps.Neutral) c a = c ≡ 38
+
+-- THAT IT IS SO
+
+-- a mark that leaves the connection as it was
+record Same (n1 : ℕ) (h h′ : List Mark) : Type 0 where
+  alive-is : alive h′ ≡ alive h
+  told-is : toldIns n1 h′ ≡ toldIns n1 h
+  heard-is : heardIns h′ ≡ heardIns h
+  sent-is : sent h′ ≡ sent h
+  due-is : due n1 h′ ≡ due n1 h
+
+conn-same : (f : Found) (c : Conn) (h h′ : List Mark) → Same (f .n1) h h′ → ConnIs f c h → ConnIs f c h′
+conn-same f dead h h′ s k = s .alive-is ∙ k
+conn-same f (live a g b n) h h′ s k = (s .alive-is ∙ k .0, s .told-is ∙ k .1, s .heard-is ∙ k .2, s .sent-is ∙ k .3, s .due-is ∙ k .4)
+
+-- a literal mark that is no edge and no unit computes away
+module _ (f : Found) (h : List Mark) where
+  abbrev Then : Option Abs → Mark → Type 0
+  Then o m = Is? f o (m ∷ h)
+
+  emitted-same : (c : ℕ) (x : Arrived) → eqb c 17 ≡ false → eqb c 18 ≡ false → eqb c 19 ≡ false → Same (f .n1) h (emitted c x ∷ h)
+  unfolding alive toldIns heardIns sent due
+  emitted-same c x p q r =
+      record { alive-is = rw (p, q); told-is = rw (p, q, r); heard-is = rw (p, q); sent-is = rw (p, q, r); due-is = rw (p, q) }
+
+  long-same : Same (f .n1) h (emitted 19 Arrived.Long ∷ h)
+  unfolding alive toldIns heardIns sent due
+  long-same = record { alive-is = refl; told-is = refl; heard-is = refl; sent-is = refl; due-is = refl }
+
+  same-ok : (c : ℕ) (x : Arrived) (A : Abs) → Is f A h → eqb c 4 ≡ false → eqb c 5 ≡ false → Same (f .n1) h (emitted c x ∷ h) → Then (some A) (emitted c x)
+  unfolding stands
+  same-ok c x (abs s y u m) k p q e = (rw (p, q) (k .0), conn-same f y h _ e (k .1), rw q (k .2), k .3, k .4)
+
+  in-ok : (x : Arrived) (A : Abs) → Is f A h → Then (ruleIn A) (emitted 4 x)
+  unfolding stands
+  in-ok x (abs s c u m) k = (refl, conn-same f c h _ (emitted-same 4 x refl refl refl) (k .1), k .2, k .3, k .4)
+
+  out-ok : (x : Arrived) (A : Abs) → Is f A h → Then (ruleOut A) (emitted 5 x)
+  unfolding stands
+  out-ok x (abs s c u m) k = (refl, conn-same f c h _ (emitted-same 5 x refl refl refl) (k .1), refl, k .3, k .4)
+
+  up-ok : (x : Arrived) (A : Abs) → Is f A h → Then (ruleUp A) (emitted 17 x)
+  unfolding stands alive toldIns heardIns sent due
+  up-ok x (abs s c keep keep) k = (k .0, (refl, refl, refl, refl, rw (k .2, k .3, k .4)), k .2, k .3, k .4)
+  up-ok x (abs s c keep (put y)) k = tt
+  up-ok x (abs s c (put y) m) k = tt
+
+  released-ok : (x : Arrived) (A : Abs) → Is f A h → Then (ruleReleased A) (emitted 18 x)
+  unfolding stands alive
+  released-ok x (abs s c u m) k = (k .0, refl, k .2, k .3, k .4)
+
+  proving-ok : (A : Abs) → Is f A h → Then (ruleProving A) (emitted 19 Arrived.NM)
+  unfolding stands alive toldIns heardIns sent due
+  proving-ok (abs s dead u m) k = tt
+  proving-ok (abs s (live a g b n) u m) k = (k .0, (k .1 .0, k .1 .1, k .1 .2, omega (arith, k .1 .3), k .1 .4), k .2, k .3, k .4)
+
+  module _ (level : f .level ≡ true → f .sent ≡ f .due) where
+    ins-ok : (A : Abs) → Is f A h → Then (ruleIns (f .level) A) (emitted 19 Arrived.INS)
+    unfolding stands alive toldIns heardIns sent due
+    ins-ok (abs s dead u m) k = tt
+    ins-ok (abs s (live a g new n) u m) k = tt
+    ins-ok (abs s (live a g held zero) u m) k = by (f .level) refl where
+      by : (b : Bool) → f .level ≡ b → Then (cond b (some (abs s (live true g held zero) u m)) none) (emitted 19 Arrived.INS)
+      by true e =
+          let all : sent h ≡ due (f .n1) h = omega (arith, k .1 .3, level e, k .1 .4) in
+          (k .0, (k .1 .0, rw (eq-eqb (sent h) (due (f .n1) h) all), k .1 .2, k .1 .3, k .1 .4), k .2, k .3, k .4)
+      by false e = tt
+    ins-ok (abs s (live a g held (suc n)) u m) k = tt
+
+    -- a signal that carries data: the unit that it names, or the event's own message
+    module _ (message : List ℕ) (long : Bool) (no-unit : long ≡ true → arrived message ≡ Arrived.Long) (A : Abs) (k : Is f A h) where
+      unit-ok : (s : Status) → Then (ruleUnit (f .level) s A) (emitted 19 (arrived (unitOf s)))
+      unfolding arrived unitOf kind
+      unit-ok Status.OOS = tt
+      unit-ok Status.PO = tt
+      unit-ok Status.INS = ins-ok A k
+      unit-ok Status.NM = proving-ok A k
+      unit-ok Status.EM = tt
+      unit-ok Status.ANS = tt
+      unit-ok Status.MI = tt
+      unit-ok Status.PE = tt
+      unit-ok Status.PNS = tt
+
+      own-ok : (b : Bool) → long ≡ b → Then (cond b (some A) none) (emitted 19 (arrived message))
+      own-ok true e = rw (no-unit e) (same-ok 19 Arrived.Long A k refl refl long-same)
+      own-ok false e = tt
+
+      data-ok : (b : Carries) → Then (ruleData (f .level) long b A) (emitted 19 (arrived (bodyOf b message)))
+      data-ok Carries.Nothing = tt
+      data-ok (Carries.Unit s) = unit-ok s
+      data-ok Carries.Message = own-ok long refl
+
+      pub signal-ok : (c : ℕ) (b : Carries) → Then (ruleSignal (f .level) long c b A) (emitted c (arrived (bodyOf b message)))
+      signal-ok c b = by (eqb c 4) (eqb c 5) (eqb c 17) (eqb c 18) (eqb c 19) refl refl refl refl refl where
+        x : Arrived
+        x = arrived (bodyOf b message)
+
+        by : (p q r s t : Bool) → eqb c 4 ≡ p → eqb c 5 ≡ q → eqb c 17 ≡ r → eqb c 18 ≡ s → eqb c 19 ≡ t →
+            Then (cond p (ruleIn A) (cond q (ruleOut A) (cond r (ruleUp A) (cond s (ruleReleased A) (cond t (ruleData (f .level) long b A) (some A)))))) (emitted c x)
+        by true q r s t e₁ e₂ e₃ e₄ e₅ = rw (eqb-true c 4 e₁) (in-ok x A k)
+        by false true r s t e₁ e₂ e₃ e₄ e₅ = rw (eqb-true c 5 e₂) (out-ok x A k)
+        by false false true s t e₁ e₂ e₃ e₄ e₅ = rw (eqb-true c 17 e₃) (up-ok x A k)
+        by false false false true t e₁ e₂ e₃ e₄ e₅ = rw (eqb-true c 18 e₄) (released-ok x A k)
+        by false false false false true e₁ e₂ e₃ e₄ e₅ = rw (eqb-true c 19 e₅) (data-ok b)
+        by false false false false false e₁ e₂ e₃ e₄ e₅ = same-ok c x A k e₁ e₂ (emitted-same c x e₃ e₄ e₅)
+
+-- EVENTS. Before one the history has another field.
+abbrev pub Before : Found → Abs → List Mark → Type 0
+Before f (abs s c u m) h = (stands h ≡ s) × ConnIs f c h × (ups h ≡ over u (f .ups)) × (mps h ≡ over m (f .mps))
+
+module _ (f : Found) (h : List Mark) where
+  abbrev Next : Option Abs → ℕ → Arrived → Type 0
+  Next o c a = Is? f o (accepted c (f .field) a ∷ h)
+
+  accepted-same : (c : ℕ) (a : Arrived) → eqb c 17 ≡ false → eqb c 18 ≡ false → eqb c 20 && isINS a ≡ false → Same (f .n1) h (accepted c (f .field) a ∷ h)
+  unfolding alive toldIns heardIns sent due
+  accepted-same c a p q r = record { alive-is = rw (p, q); told-is = rw (p, q); heard-is = rw (p, q, r); sent-is = rw (p, q); due-is = rw (p, q) }
+
+  -- a quiet event has none of the codes that count
+  quiet-ok : (c : ℕ) (a : Arrived) (A : Abs) → Before f A h → Of quiet c a → Next (some A) c a
+  unfolding stands
+  quiet-ok c a (abs s y u m) k e =
+      let (e₂, (e₃, (e₄, (e₁₇, (e₁₈, (e₃₆, (e₃₇, (e₃₈, (i, _))))))))) = each (counting c a) e in
+      (rw e₄ (k .0), conn-same f y h _ (accepted-same c a e₁₇ e₁₈ i) (k .1), rw (e₂, e₃, e₄) (k .2), rw (e₃₆, e₃₇, e₃₈) (k .3), refl)
+
+  pub event-ok : (e : Kind) (c : ℕ) (a : Arrived) (A : Abs) → Before f A h → Of e c a → Next (ruleEvent e A) c a
+  unfolding stands alive toldIns heardIns sent due
+  event-ok quiet c a A k e = quiet-ok c a A k e
+  event-ok stops c a (abs s y u m) k e = rw e (refl, conn-same f y h _ (accepted-same 4 a refl refl refl) (k .1), refl, k .3, refl)
+  event-ok confirms c a (abs s y keep keep) k e = rw e (k .0, (refl, refl, refl, refl, rw (k .2, k .3)), k .2, k .3, refl)
+  event-ok confirms c a (abs s y keep (put x)) k e = tt
+  event-ok confirms c a (abs s y (put x) m) k e = tt
+  event-ok releases c a (abs s y u m) k e = rw e (k .0, refl, k .2, k .3, refl)
+  event-ok hears c a (abs s dead u m) k e = rw (e .0) (k .0, k .1, k .2, k .3, refl)
+  event-ok hears c a (abs s (live x g b n) u m) k e = rw (e .0, e .1) (k .0, (k .1 .0, k .1 .1, refl, k .1 .3, k .1 .4), k .2, k .3, refl)
+  event-ok (wishes Ups.Emergency) c a (abs s y u m) k e = rw e (k .0, conn-same f y h _ (accepted-same 2 a refl refl refl) (k .1), refl, k .3, refl)
+  event-ok (wishes Ups.Normal) c a (abs s y u m) k e = rw e (k .0, conn-same f y h _ (accepted-same 3 a refl refl refl) (k .1), refl, k .3, refl)
+  event-ok (forces Mps.Normal) c a (abs s y u m) k e = rw e (k .0, conn-same f y h _ (accepted-same 36 a refl refl refl) (k .1), k .2, refl, refl)
+  event-ok (forces Mps.Emergency) c a (abs s y u m) k e = rw e (k .0, conn-same f y h _ (accepted-same 37 a refl refl refl) (k .1), k .2, refl, refl)
+  event-ok (forces Mps.Neutral) c a (abs s y u m) k e = rw e (k .0, conn-same f y h _ (accepted-same 38 a refl refl refl) (k .1), k .2, refl, refl)
