@@ -8,6 +8,7 @@ use mathlib.Core.Option.{Option, none, some}
 use Prim.Native.Nat.{ℕ, zero, suc}
 use lib.Dec.{eqb, leb}
 use lib.ListN.{getD}
+use borrow.Author.Tests.{not-true}
 use Rattle.unit.specs.declared.Mps.{Mps}
 use Rattle.unit.specs.declared.Ups.{Ups}
 use Rattle.unit.specs.Proving.{mpsCode, upsCode}
@@ -16,9 +17,9 @@ use Rattle.table6.specs.declared.Facts.{Facts}
 use Rattle.table6.specs.Cell.{Act, AAL-RECEIVED-MESSAGE-indication, AAL-LINK-CONGESTED-indication, AAL-LINK-CONGESTION-CEASED-indication, AAL-IN-SERVICE-indication, AAL-OUT-OF-SERVICE-indication, AAL-RETRIEVED-MESSAGES-indication, AAL-RETRIEVAL-COMPLETE-indication, AAL-BSNT-confirm, AAL-BSNT-NOT-RETRIEVABLE-confirm, AA-ESTABLISH-request, AA-ESTABLISH-response, AA-RELEASE-request, AA-DATA-request, AA-RECOVER-response, AA-RETRIEVE-request, MAAL-PROVING-indication, MAAL-STOP-PROVING-indication, MAAL-REPORT-indication, Set-UPS=NM, Set-UPS=EM, Set-MPS=N, Set-MPS=NM, Set-MPS=EM, Set-LPO=0, Set-LPO=1, Set-INS-flag, Reset-INS-flag, Generate-N1, Set-C1=N1, Decrement-C1, Set, Reset, connection-up, take-BSNT, end, Cond, LPO=0, LPO=0&INS=0, LPO=0&INS=1, UU=EM-or-NM, Source=User, BSNT-available, MU>4, holds, Cell, Illegal, to, _⨟_, IF_THEN_ELSE_, Row, cell, Choice, illegal, does, after, chosen}
 use Rattle.table6.specs.Table6.{AAL-MESSAGE-FOR-TRANSMISSION-request, AAL-EMERGENCY-request, AAL-EMERGENCY-CEASES-request, AAL-STOP-request, AAL-START-request, AAL-RETRIEVE-BSNT-request, AAL-RETRIEVAL-REQUEST-AND-FSNC-request, AAL-FLUSH-BUFFERS-request, AAL-CONTINUE-request, AA-ESTABLISH-indication-with-EM-NM, AA-ESTABLISH-indication-with-others, AA-ESTABLISH-confirm-with-EM-NM, AA-ESTABLISH-confirm-with-others, AA-RELEASE-indication-from-User, AA-RELEASE-indication-from-SSCOP, AA-RELEASE-confirm, AA-DATA-indication-with-INS, AA-DATA-indication-with-NM, AA-DATA-indication-with-other, AA-DATA-indication-with-MU>4, AA-RESYNC-indication, AA-RECOVER-indication, AA-UNITDATA-indication, AA-RETRIEVE-indication, AA-RETRIEVE-COMPLETE-indication, MAAL-PROVING-UNSUCCESSFUL-response, MAAL-RELEASE-request, MAAL-LOCAL-PROCESSOR-OUTAGE-request, MAAL-LOCAL-PROCESSOR-RECOVERED-request, MAAL-FORCE-PROVING-request, MAAL-FORCE-EMERGENCY-request, MAAL-CLEAR-FORCE-MODES-request, Local-Congestion, Local-Congestion-Ceased, T1-expires, T2-expires, T3-expires-and-C1>0, T3-expires-and-C1=0}
 use Rattle.table6.specs.Order.{signals}
-use Rattle.table6.specs.Rows.{Printed, one, two, printed, Heading, rows, nowhere}
+use Rattle.table6.specs.Rows.{Printed, one, two, printed, Heading, rows, nowhere, heading}
 use Rattle.table6.specs.Summary.{Op, keep, put, over, Count, same, decided, less, Summary, still, summary}
-use Rattle.table6.proofs.Every.{left, right}
+use Rattle.table6.proofs.Every.{left, right, Holds}
 use Rattle.link.specs.declared.Num.{Num}
 use Rattle.link.specs.declared.Carries.{Carries}
 use Rattle.link.specs.declared.Signal.{Signal}
@@ -256,3 +257,61 @@ sign-of p n m u b (Reset t) = (refl, refl)
 sign-of p n m u b connection-up = (refl, refl)
 sign-of p n m u b take-BSNT = (refl, refl)
 sign-of p n m u b (end t) = (refl, refl)
+
+possible : (q : Cond) (f : Facts) → holds q f ≡ true → never q (f .ins) ≡ false
+possible LPO=0 f h = refl
+possible LPO=0&INS=0 f h = not-true (f .ins) (right (not (f .lpo)) (not (f .ins)) h)
+possible LPO=0&INS=1 f h = rw (right (not (f .lpo)) (f .ins) h)
+possible UU=EM-or-NM f h = refl
+possible Source=User f h = refl
+possible BSNT-available f h = refl
+possible MU>4 f h = refl
+
+one-more : (t : List Act → State → Bool) (acts : List Act) (a : Act) (x : Choice) → Holds t (acts ++ a ∷ []) x → Holds t acts (after a x)
+one-more t acts a illegal h = tt
+one-more t acts a (does more next) h = rw append-assoc at h
+
+of-cell : (t : List Act → State → Bool) (acts : List Act) (c : Cell) (f : Facts) → in-cell t (f .ins) acts c ≡ true → Holds t acts (chosen f c)
+of-cell t acts Illegal f h = tt
+of-cell t acts (to next) f h = rw append-nil h
+of-cell t acts (a ⨟ c) f h = one-more t acts a (chosen f c) (of-cell t (acts ++ a ∷ []) c f h)
+of-cell t acts (IF q THEN c ELSE d) f h =
+    by (holds q f) refl (of-cell t acts c f) (of-cell t acts d f (right (cond (never q (f .ins)) true (in-cell t (f .ins) acts c)) (in-cell t (f .ins) acts d) h)) where
+      by : (b : Bool) → holds q f ≡ b → (in-cell t (f .ins) acts c ≡ true → Holds t acts (chosen f c)) → Holds t acts (chosen f d) → Holds t acts (cond b (chosen f c) (chosen f d))
+      by true e k m = k (rw (possible q f e) at (left (cond (never q (f .ins)) true (in-cell t (f .ins) acts c)) (in-cell t (f .ins) acts d) h))
+      by false e k m = m
+
+abbrev pub sortAt : ℕ → Sort
+sortAt row = getD sorts row (plain quiet)
+
+module _ (st : State) (f : Facts) where
+  of-printed : (s : Sort) (arrives : List Act) (p : Printed) → in-printed s st (f .ins) arrives p ≡ true → Holds (leads s st (f .ins) arrives) [] (chosen f (cell (printed f p) st))
+  of-printed s arrives (one r) h = of-cell (leads s st (f .ins) arrives) [] (cell r st) f h
+  of-printed s arrives (two q r w) h = by (holds q f) where
+    by : (b : Bool) → Holds (leads s st (f .ins) arrives) [] (chosen f (cell (cond b r w) st))
+    by true = of-cell (leads s st (f .ins) arrives) [] (cell r st) f (left (in-row s st (f .ins) arrives r) (in-row s st (f .ins) arrives w) h)
+    by false = of-cell (leads s st (f .ins) arrives) [] (cell w st) f (right (in-row s st (f .ins) arrives r) (in-row s st (f .ins) arrives w) h)
+
+  abbrev At : Sort → Heading → Type 0
+  At s h = Holds (leads s st (f .ins) (h .arrives)) [] (chosen f (cell (printed f (h .row)) st))
+
+  no-row : (x : State) → cell (printed f (nowhere .row)) x ≡ Illegal
+  no-row State.S111 = refl
+  no-row State.S141 = refl
+  no-row State.S212 = refl
+  no-row State.S222 = refl
+  no-row State.S242 = refl
+  no-row State.S2103 = refl
+  no-row State.S2104 = refl
+  no-row State.S3105 = refl
+
+  of-rows : (ss : List Sort) (hs : List Heading) → in-rows st (f .ins) ss hs ≡ true → (row : ℕ) → At (getD ss row (plain quiet)) (getD hs row nowhere)
+  of-rows [] [] h row = rw (no-row st) tt
+  of-rows [] (x ∷ hs) h row = absurd (false≢true h)
+  of-rows (s ∷ ss) [] h row = absurd (false≢true h)
+  of-rows (s ∷ ss) (x ∷ hs) h zero = of-printed s (x .arrives) (x .row) (left (in-printed s st (f .ins) (x .arrives) (x .row)) (in-rows st (f .ins) ss hs) h)
+  of-rows (s ∷ ss) (x ∷ hs) h (suc row) = of-rows ss hs (right (in-printed s st (f .ins) (x .arrives) (x .row)) (in-rows st (f .ins) ss hs) h) row
+
+  -- what the facts choose in any row leads from the state to the next
+  pub choice-ok : (row : ℕ) → At (sortAt row) (heading row)
+  choice-ok row = of-rows sorts rows (table-ok st (f .ins)) row

@@ -153,8 +153,8 @@ served← n1 h s =
     both (alive h) _ (alive-there c)
     (both (eqb (sent h) (due n1 h)) _ (eq-eqb (sent h) (due n1 h) (sent-there c ∙ s .proved ∙ sym (due-there c n1)))
     (both (toldIns n1 h) (heardIns h)
-      (rw (begun-there c, on-it c, i .whole) (after-ins n (i .mark) (i .earlier) (i .passes) (s .after-them) (i .later)))
-      (rw (on-it c, g .whole) (not-none insReceived (g .mark) (g .earlier) (g .passes) (g .later)))))
+    (rw (begun-there c, on-it c, i .whole) (after-ins n (i .mark) (i .earlier) (i .passes) (s .after-them) (i .later)))
+    (rw (on-it c, g .whole) (not-none insReceived (g .mark) (g .earlier) (g .passes) (g .later)))))
 
 pub served-tested : ServedTested
 served-tested n1 h = (served← n1 h, served→ n1 h)

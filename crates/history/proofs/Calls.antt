@@ -1,0 +1,163 @@
+-- The invariant over any sequence of calls, on octets. Assumes nothing.
+use mathlib.Core.Path.{_≡_, refl, sym, ap, subst, _∙_}
+use mathlib.Core.Bool.{Bool, true, false, cond, true≢false, or-true}
+use mathlib.Core.List.{List, [], _∷_, map}
+use Prim.Native.Nat.{ℕ, _*_, _/_, _≤_, _<_}
+use native.Mathlib.Omega.{arith}
+use lib.Dec.{eqb, leb}
+use lib.ListN.{length, take}
+use borrow.Author.Tests.{eqb-true, eqb-false, leb-false}
+use Rattle.unit.specs.declared.Arrived.{Arrived}
+use Rattle.unit.specs.Unit.{arrived}
+use Rattle.link.specs.declared.Link.{Link}
+use Rattle.link.specs.declared.Event.{Event}
+use Rattle.link.specs.declared.Num.{Num}
+use Rattle.link.specs.declared.Signal.{Signal}
+use Rattle.link.specs.Fresh.{freshLink}
+use Rattle.link.specs.Step as machine
+use Rattle.link.specs.Stored.{viewOf}
+use Rattle.record.specs.declared.events.Coded.{Coded}
+use Rattle.record.specs.LinkRecord.{linkOf, octetsOf}
+use Rattle.record.specs.Frame.{EV, linkAt, codeAt, paramAt, numberAt, lengthAt, messageOf}
+use Rattle.record.specs.EventRecord.{misfit}
+use Rattle.record.specs.SignalRecord.{signalOctets, joined}
+use Rattle.record.proofs.LinkRecord.{unpacked, octets-length}
+use Rattle.record.proofs.Frame.{message-length}
+use Rattle.record.proofs.SignalRecord.{signals-apart}
+use Rattle.sscf.specs.Checks.{Verdict, passed, refused, first}
+use Rattle.sscf.specs.Step.{records, recordAt, linkFor, codedIn, unknown, said, eventOf, checks, Outcome, stepCall}
+use Rattle.sscf.specs.Fresh as maker
+use Rattle.sscf.specs.Fresh.{freshChecks, freshCall}
+use Rattle.sscf.specs.Untouched.{Written}
+use Rattle.sscf.proofs.Places.{clear}
+use Rattle.sscf.proofs.Taken.{Taken, taken}
+use Rattle.sscf.proofs.Untouched.{either-way, number-above, refusals-untouched, same-lengths, others-untouched, accepted-written}
+use Rattle.sscf.proofs.Copies.{length-copies}
+use Rattle.sscf.proofs.AllFresh.{all-fresh}
+use Rattle.history.specs.Calls.{Call, fresh, step, Seen, cut, signalsIn, World, made, next, run, AfterEachCall}
+use Rattle.history.specs.History.{Mark, with-signals, eventMark, marks, history}
+use Rattle.history.proofs.Table.{sortAt}
+use Rattle.history.proofs.Events.{Told, Fits, fits}
+use Rattle.history.proofs.Step.{Inv, fresh-ok, Keeps, step-ok}
+
+-- WHAT THE OUTPUT HOLDS: the records of the signals, one by one
+cut-joined : (k : ℕ) (m : List ℕ) (ss : List Signal) → cut (length ss) (joined k m ss) ≡ map (signalOctets k m) ss
+cut-joined k m [] = refl
+cut-joined k m (s ∷ ss) =
+    let a = signals-apart k m s ss in
+    rw (a .first, a .others) (ap (λ (x : List (List ℕ)). signalOctets k m s ∷ x) (cut-joined k m ss))
+
+emitted-ones : (t e : List ℕ) (after : Outcome) (w : Written t e after) → signalsIn after ≡ map (signalOctets (linkAt e) (messageOf e)) (w .signals)
+emitted-ones t e after w = rw (w .counted, w .octets) (cut-joined (linkAt e) (messageOf e) (w .signals))
+
+-- WHAT THE EVENT SAYS
+long-message : (m : List ℕ) → 5 ≤ length m → arrived m ≡ Arrived.Long
+unfolding arrived
+long-message [] h = absurd (omega arith)
+long-message (a ∷ []) h = absurd (omega arith)
+long-message (a ∷ b ∷ []) h = absurd (omega arith)
+long-message (a ∷ b ∷ c ∷ []) h = absurd (omega arith)
+long-message (a ∷ b ∷ c ∷ d ∷ []) h = absurd (omega arith)
+long-message (a ∷ b ∷ c ∷ d ∷ e ∷ m) h = refl
+
+user-message : (p : ℕ) (n : Num) (len : ℕ) → misfit 1 p n len ≡ false → 5 ≤ len
+unfolding misfit
+user-message p n len e = by (leb len 4) refl where
+  by : (b : Bool) → leb len 4 ≡ b → 5 ≤ len
+  by true q = let z : misfit 1 p n len ≡ true = simp (q, or-true) in absurd (true≢false (sym z ∙ e))
+  by false q = leb-false len 4 q
+
+-- the event of an accepted step is of the sort of the row that it meets
+module _ (t e : List ℕ) (room : ℕ) (h : first (checks t e room) ≡ passed) (c1 : ℕ) where
+  long-if-user : codeAt e ≡ 1 → arrived (messageOf e) ≡ Arrived.Long
+  long-if-user i =
+      let fit = subst (λ (c : ℕ). misfit c (paramAt e) (numberAt e) (lengthAt e) ≡ false) i (clear (checks t e room) h .1 .1 .1 .0) in
+      long-message (messageOf e) (omega (arith, user-message (paramAt e) (numberAt e) (lengthAt e) fit, message-length EV e (taken t e room h .sound)))
+
+  by-coded : (x : Coded) → unknown x ≡ false → Fits (paramAt e) (numberAt e) (lengthAt e) (arrived (messageOf e)) c1 (codeAt e) x →
+      Told (sortAt (viewOf (said x) c1 .0)) (codeAt e) (paramAt e) (arrived (messageOf e)) c1 (viewOf (said x) c1 .1)
+  by-coded Coded.Unknown k f = absurd (true≢false k)
+  by-coded (Coded.Of x) k f = f long-if-user
+
+  sorted : Told (sortAt (viewOf (eventOf e) c1 .0)) (codeAt e) (paramAt e) (arrived (messageOf e)) c1 (viewOf (eventOf e) c1 .1)
+  sorted = by-coded (codedIn e) (clear (checks t e room) h .1 .1 .0) (fits (paramAt e) (numberAt e) (lengthAt e) (arrived (messageOf e)) c1 (codeAt e))
+
+-- EVERY LINK OF THE TABLE: its record is that of a link of which the invariant holds
+pub record Kept (n1 : ℕ) (r : List ℕ) (h : List Mark) : Type 0 where
+  pub link : Link
+  pub octets : r ≡ octetsOf link
+  pub inv : Inv n1 link h
+
+abbrev Good : World → Type 0
+Good w = (k : ℕ) → k < records (w .table) → Kept (w .n1) (recordAt (w .table) k) (history w k)
+
+made-length : (buffer : List ℕ) (n1 : ℕ) → freshCall buffer n1 .answer ≡ 0 → length (freshCall buffer n1 .table) ≡ 16 * records buffer
+unfolding freshCall
+made-length buffer n1 = by (first (freshChecks buffer n1)) where
+  by : (v : Verdict) → maker.made v buffer n1 .answer ≡ 0 → length (maker.made v buffer n1 .table) ≡ 16 * records buffer
+  by (refused x) h = absurd (omega (arith, number-above x))
+  by passed h = length-copies (records buffer) (octetsOf (freshLink n1)) (octets-length (freshLink n1))
+
+made-ok : (buffer : List ℕ) (n1 : ℕ) → freshCall buffer n1 .answer ≡ 0 → Good (made buffer n1)
+unfolding marks
+made-ok buffer n1 h k i = record { link = freshLink n1; octets = all-fresh buffer n1 k h (omega (arith, made-length buffer n1 h)); inv = fresh-ok n1 }
+
+module _ (w : World) (g : Good w) (e o : List ℕ) where
+  same-records : records (stepCall (w .table) e o .table) ≡ records (w .table)
+  same-records = ap (λ (n : ℕ). n / 16) (same-lengths (w .table) e o .0)
+
+  no-check : stepCall (w .table) e o .answer .refusal ≡ 0 → first (checks (w .table) e (length o)) ≡ passed
+  no-check =
+      either-way (w .table) e o (λ z. z .answer .refusal ≡ 0 → first (checks (w .table) e (length o)) ≡ passed) (λ x h. absurd (omega (arith, number-above x)))
+      (λ next signals p m h. p)
+
+  this-link : stepCall (w .table) e o .answer .refusal ≡ 0 →
+      Kept (w .n1) (recordAt (stepCall (w .table) e o .table) (linkAt e)) (with-signals (signalsIn (stepCall (w .table) e o)) (eventMark e ∷ history w (linkAt e)))
+  this-link a =
+      let x = accepted-written (w .table) e o a in
+      let p = no-check a in
+      let i = g (linkAt e) (taken (w .table) e (length o) p .inside) in
+      let found : linkFor (w .table) e ≡ i .link = ap linkOf (i .octets) ∙ unpacked (i .link) in
+      record {
+        link = x .next;
+        octets = x .packed;
+        inv =
+            rw (emitted-ones (w .table) e (stepCall (w .table) e o) x)
+            (subst (Keeps (w .n1) (history w (linkAt e)) (linkAt e) (messageOf e) (codeAt e) (paramAt e)) (ap (λ (l : Link). machine.stepOf l (eventOf e)) (sym found) ∙ x .gives)
+            (step-ok (w .n1) (i .link) (history w (linkAt e)) (i .inv) (linkAt e) (messageOf e) (codeAt e) (paramAt e) (eventOf e) (sorted (w .table) e (length o) p (i .link .c1))));
+      }
+
+  abbrev log : Bool → List Seen
+  log b = cond b (record { event = e; signals = signalsIn (stepCall (w .table) e o) } ∷ w .seen) (w .seen)
+
+  accepted-ok : stepCall (w .table) e o .answer .refusal ≡ 0 → (k : ℕ) → k < records (w .table) → (b : Bool) → eqb (linkAt e) k ≡ b →
+      Kept (w .n1) (recordAt (stepCall (w .table) e o .table) k) (cond b (with-signals (signalsIn (stepCall (w .table) e o)) (eventMark e ∷ marks (w .seen) k)) (marks (w .seen) k))
+  accepted-ok a k i true q =
+      subst (λ (j : ℕ). Kept (w .n1) (recordAt (stepCall (w .table) e o .table) j) (with-signals (signalsIn (stepCall (w .table) e o)) (eventMark e ∷ marks (w .seen) j)))
+      (eqb-true (linkAt e) k q) (this-link a)
+  accepted-ok a k i false q = rw (others-untouched (w .table) e o k (λ r. eqb-false (linkAt e) k q (sym r))) (g k i)
+
+  step-good : (b : Bool) → eqb (stepCall (w .table) e o .answer .refusal) 0 ≡ b → Good (record { table = stepCall (w .table) e o .table; n1 = w .n1; seen = log b })
+  unfolding marks
+  step-good true a k i = accepted-ok (eqb-true (stepCall (w .table) e o .answer .refusal) 0 a) k (omega (arith, same-records)) (eqb (linkAt e) k) refl
+  step-good false a k i =
+      let r : 1 ≤ stepCall (w .table) e o .answer .refusal = omega (arith, eqb-false (stepCall (w .table) e o .answer .refusal) 0 a) in
+      rw (ap (λ (z : Outcome). z .table) (refusals-untouched (w .table) e o r)) (g k (omega (arith, same-records)))
+
+fresh-good : (w : World) → Good w → (buffer : List ℕ) (n1 : ℕ) (b : Bool) → eqb (freshCall buffer n1 .answer) 0 ≡ b → Good (cond b (made buffer n1) w)
+fresh-good w g buffer n1 true a = made-ok buffer n1 (eqb-true (freshCall buffer n1 .answer) 0 a)
+fresh-good w g buffer n1 false a = g
+
+next-good : (w : World) → Good w → (c : Call) → Good (next w c)
+unfolding next
+next-good w g (fresh buffer n1) = fresh-good w g buffer n1 (eqb (freshCall buffer n1 .answer) 0) refl
+next-good w g (step e o) = step-good w g e o (eqb (stepCall (w .table) e o .answer .refusal) 0) refl
+
+run-good : (calls : List Call) (w : World) → Good w → Good (run w calls)
+unfolding run
+run-good [] w g = g
+run-good (c ∷ calls) w g = run-good calls (next w c) (next-good w g c)
+
+-- what holds of a record and a history by the invariant holds after each call
+pub after-each-call : (P : World → ℕ → Type 0) → ((w : World) (k : ℕ) → Kept (w .n1) (recordAt (w .table) k) (history w k) → P w k) → AfterEachCall P
+after-each-call P f buffer n1 h calls k i = f (run (made buffer n1) calls) k (run-good calls (made buffer n1) (made-ok buffer n1 h) k i)
