@@ -6,3 +6,4 @@ pub mod Step
 pub mod Calls
 pub mod Demand
 pub mod Register
+pub mod Witness

@@ -3,3 +3,4 @@ pub mod History
 pub mod Demand
 pub mod Register
 pub mod Tests
+pub mod Witness

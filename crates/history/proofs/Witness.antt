@@ -1,0 +1,35 @@
+-- The histories computed, call by call on octets. Assumes nothing.
+use mathlib.Core.Path.{refl}
+use Rattle.unit.specs.Unit.{unitOf, kind, arrived, decoded}
+use Rattle.unit.specs.Proving.{asked, table7, table8}
+use Rattle.table6.specs.Table6.{AAL-START-request, AAL-STOP-request, AAL-EMERGENCY-request, AA-ESTABLISH-indication-with-EM-NM, AA-ESTABLISH-confirm-with-EM-NM, AA-RELEASE-indication-from-User, AA-RELEASE-indication-from-SSCOP, AA-DATA-indication-with-INS, MAAL-RELEASE-request, MAAL-FORCE-EMERGENCY-request, T1-expires, T3-expires-and-C1>0, T3-expires-and-C1=0}
+use Rattle.link.specs.Step.{stepOf}
+use Rattle.record.specs.Octets.{over, putAt}
+use Rattle.record.specs.LinkRecord.{octetsOf, linkOf, wellFormed}
+use Rattle.record.specs.Frame.{written, framedAs}
+use Rattle.record.specs.EventRecord.{codedAt, misfit}
+use Rattle.record.specs.SignalRecord.{joined}
+use Rattle.sscf.specs.Step.{stepCall}
+use Rattle.sscf.specs.Fresh.{freshCall}
+use Rattle.history.specs.Calls.{next, run}
+use Rattle.history.specs.History.{marks}
+use Rattle.history.specs.Tests.{stands, alive, sent, due, toldIns, heardIns}
+use Rattle.history.specs.Witness.{Witness}
+
+pub witness : Witness
+unfolding unitOf kind arrived decoded asked table7 table8 AAL-START-request AAL-STOP-request AAL-EMERGENCY-request AA-ESTABLISH-indication-with-EM-NM AA-ESTABLISH-confirm-with-EM-NM AA-RELEASE-indication-from-User AA-RELEASE-indication-from-SSCOP AA-DATA-indication-with-INS MAAL-RELEASE-request MAAL-FORCE-EMERGENCY-request T1-expires T3-expires-and-C1>0 T3-expires-and-C1=0 stepOf over putAt octetsOf linkOf wellFormed written framedAs codedAt misfit joined stepCall freshCall next run marks stands alive sent due toldIns heardIns
+witness =
+    record {
+      with-proving = record { accepted = refl; service = refl; condition = refl };
+      without = record { accepted = refl; service = refl; condition = refl };
+      by-wish = record { accepted = refl; service = refl; condition = refl };
+      not-up = record { accepted = refl; service = refl; condition = refl };
+      by-this-end = record { accepted = refl; service = refl; condition = refl };
+      by-far-end = record { accepted = refl; service = refl; condition = refl };
+      by-SSCOP = record { accepted = refl; service = refl; condition = refl };
+      by-stop = record { accepted = refl; service = refl; condition = refl };
+      one-unit = record { accepted = refl; service = refl; condition = refl };
+      not-sent = record { accepted = refl; service = refl; condition = refl };
+      not-received = record { accepted = refl; service = refl; condition = refl };
+      earlier = record { accepted = refl; service = refl; condition = refl };
+    }

@@ -1,0 +1,101 @@
+-- Histories that the checker computes, on octets and through both calls, so that nobody has to wonder whether the demand is empty: three in which a link comes into
+-- service, and for each condition of the demand some in which it fails and the link does not.
+use Prim.Native.Nat.{ℕ}
+use mathlib.Core.Path.{_≡_}
+use mathlib.Core.Bool.{Bool, true, false}
+use mathlib.Core.List.{List, [], _∷_, _++_}
+use lib.Dec.{eqb}
+use lib.ListN.{length, replicate}
+use Rattle.unit.specs.declared.Status.{Status}
+use Rattle.unit.specs.Unit.{code, unitOf}
+use Rattle.link.specs.Signal.{none, num}
+use Rattle.record.specs.Frame.{EV, written}
+use Rattle.history.specs.Calls.{Call, step, World, made, run}
+use Rattle.history.specs.History.{Mark, history}
+use Rattle.history.specs.Tests.{stands, alive, sent, due, toldIns, heardIns}
+
+-- EVENTS, all for link 1 of a table of two links with n1 = 2, each with room for 4,192 octets
+
+abbrev pub room : List ℕ
+room = replicate 4192 0
+
+abbrev pub plain : ℕ → Call
+plain c = step (written EV 1 c 0 none []) room
+
+abbrev pub START : Call
+START = plain 5
+
+abbrev pub STOP : Call
+STOP = plain 4
+
+abbrev pub EMERGENCY : Call
+EMERGENCY = plain 2
+
+abbrev pub FORCE-EMERGENCY : Call
+FORCE-EMERGENCY = plain 37
+
+abbrev pub RELEASE : Call
+RELEASE = plain 33
+
+abbrev pub T1 : Call
+T1 = plain 48
+
+abbrev pub T3 : Call
+T3 = plain 50
+
+abbrev pub ESTABLISH-confirm : Status → Call
+ESTABLISH-confirm s = step (written EV 1 17 (code s) none []) room
+
+abbrev pub ESTABLISH-indication : Status → Call
+ESTABLISH-indication s = step (written EV 1 16 (code s) none []) room
+
+-- 0: the far user, 1: SSCOP
+abbrev pub RELEASE-indication : ℕ → Call
+RELEASE-indication source = step (written EV 1 18 0 (num 0 0 source) []) room
+
+abbrev pub DATA : Status → Call
+DATA s = step (written EV 1 20 0 none (unitOf s)) room
+
+-- WHAT A SEQUENCE SHOWS: all its calls are accepted, link 1 stands in service or not, and of the four conditions these hold: the connection, the number of units, the INS
+-- unit after them, the peer's INS unit.
+
+abbrev pub after : List Call → World
+after calls = run (made (replicate 32 0) 2) calls
+
+abbrev pub conditions : List Mark → List Bool
+conditions h = alive h ∷ eqb (sent h) (due 2 h) ∷ toldIns 2 h ∷ heardIns h ∷ []
+
+pub record Shows (calls : List Call) (in-service : Bool) (hold : List Bool) : Type 0 where
+  pub accepted : length (after calls .seen) ≡ length calls
+  pub service : stands (history (after calls) 1) ≡ in-service
+  pub condition : conditions (history (after calls) 1) ≡ hold
+
+abbrev pub In : List Call → Type 0
+In calls = Shows calls true (true ∷ true ∷ true ∷ true ∷ [])
+
+abbrev pub Out : List Call → List Bool → Type 0
+Out calls hold = Shows calls false hold
+
+-- two proving units, the peer's INS unit, and with the third expiry the link's own
+abbrev pub proved : List Call
+proved = START ∷ ESTABLISH-confirm Status.NM ∷ T3 ∷ T3 ∷ DATA Status.INS ∷ T3 ∷ []
+
+pub record Witness : Type 0 where
+  -- IN SERVICE, with proving and without: forced by management, or by the user's wish, where the peer calls
+  pub with-proving : In proved
+  pub without : In (FORCE-EMERGENCY ∷ START ∷ ESTABLISH-confirm Status.NM ∷ T3 ∷ DATA Status.INS ∷ [])
+  pub by-wish : In (START ∷ RELEASE-indication 0 ∷ EMERGENCY ∷ ESTABLISH-indication Status.NM ∷ T3 ∷ DATA Status.INS ∷ [])
+  -- THE CONNECTION: it has not come up; it was released by this end, by the far end, by SSCOP, by the user's stop
+  pub not-up : Out (START ∷ []) (false ∷ false ∷ false ∷ false ∷ [])
+  pub by-this-end : Out (proved ++ RELEASE ∷ []) (false ∷ false ∷ false ∷ false ∷ [])
+  pub by-far-end : Out (proved ++ RELEASE-indication 0 ∷ []) (false ∷ false ∷ false ∷ false ∷ [])
+  pub by-SSCOP : Out (proved ++ RELEASE-indication 1 ∷ []) (false ∷ false ∷ false ∷ false ∷ [])
+  pub by-stop : Out (proved ++ STOP ∷ []) (false ∷ false ∷ false ∷ false ∷ [])
+  -- THE UNITS: one of two was sent. The INS unit cannot have been sent after them then.
+  pub one-unit : Out (START ∷ ESTABLISH-confirm Status.NM ∷ T3 ∷ DATA Status.INS ∷ []) (true ∷ false ∷ false ∷ true ∷ [])
+  -- THE INS UNIT
+  pub not-sent : Out (START ∷ ESTABLISH-confirm Status.NM ∷ T3 ∷ T3 ∷ DATA Status.INS ∷ []) (true ∷ true ∷ false ∷ true ∷ [])
+  -- THE PEER'S INS UNIT: it did not come; it came on an earlier connection
+  pub not-received : Out (START ∷ ESTABLISH-confirm Status.NM ∷ T3 ∷ T3 ∷ T3 ∷ []) (true ∷ true ∷ true ∷ false ∷ [])
+  pub earlier :
+      Out (START ∷ ESTABLISH-confirm Status.NM ∷ DATA Status.INS ∷ RELEASE-indication 0 ∷ T1 ∷ ESTABLISH-confirm Status.NM ∷ T3 ∷ T3 ∷ T3 ∷ []) (true ∷ true ∷ true ∷ false ∷ [])
