@@ -6,8 +6,8 @@ use Prim.Native.Nat.{ℕ}
 use lib.Dec.{eqb}
 use borrow.Author.Tests.{eqb-true, eq-eqb, not-true}
 use Rattle.table6.proofs.Every.{left, right}
-use Rattle.history.specs.History.{Mark, comesUp, released, provingSent, insSent, insReceived, inService, turn, none, count, decided, Somewhere, Stands, Connection, since, begun, Served}
-use Rattle.history.specs.Tests.{after, from, begins, edge, insAfter, stands, alive, sent, due, toldIns, heardIns, served, StandsTested, ServedTested}
+use Rattle.history.specs.History.{Mark, comesUp, edge, provingSent, insSent, insReceived, inService, turn, none, count, decided, Somewhere, Stands, Connection, since, begun, Served}
+use Rattle.history.specs.Tests.{after, from, begins, insAfter, stands, alive, sent, due, toldIns, heardIns, served, StandsTested, ServedTested}
 
 both : (a b : Bool) → a ≡ true → b ≡ true → a && b ≡ true
 both a b p q = and-eq-true-iff a b .1 (p, q)

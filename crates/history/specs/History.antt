@@ -72,6 +72,10 @@ comesUp m = event 17 m || signal 17 m
 abbrev pub released : Mark → Bool
 released m = signal 18 m || event 18 m
 
+-- A mark that ends what was seen on a connection before it, or begins what is seen on one.
+abbrev pub edge : Mark → Bool
+edge m = comesUp m || released m
+
 -- A proving unit is sent, "its INS unit was sent", "the peer's INS unit was received": data with a unit of four octets.
 abbrev pub provingSent : Mark → Bool
 provingSent m = signal 19 m && holding isNM m
@@ -115,7 +119,7 @@ pub record Stands (h : List Mark) : Type 0 where
 -- "Its present connection came up and has not been released": nor has another come up since.
 pub record Connection (h : List Mark) : Type 0 where
   pub up : Somewhere comesUp h
-  pub present : none (λ m. comesUp m || released m) (up .later) ≡ true
+  pub present : none edge (up .later) ≡ true
 
 -- What was seen on the connection, and all that was seen when it came up.
 abbrev pub since : {h : List Mark} → Connection h → List Mark

@@ -5,7 +5,7 @@ use mathlib.Core.Logic.{_↔_}
 use mathlib.Core.Bool.{Bool, true, false, cond, not, _&&_, _||_}
 use mathlib.Core.List.{List, [], _∷_}
 use lib.Dec.{eqb}
-use Rattle.history.specs.History.{Mark, comesUp, released, provingSent, insSent, insReceived, inService, turn, none, count, decided, Stands, Served}
+use Rattle.history.specs.History.{Mark, comesUp, edge, provingSent, insSent, insReceived, inService, turn, none, count, decided, Stands, Served}
 
 -- The marks after the latest that passes a test; it and those before it.
 abbrev pub after : (Mark → Bool) → List Mark → List Mark
@@ -19,9 +19,6 @@ from p (m ∷ h) = cond (p m) (m ∷ h) (from p h)
 abbrev pub begins : (Mark → Bool) → List Mark → Bool
 begins p [] = false
 begins p (m ∷ h) = p m
-
-abbrev pub edge : Mark → Bool
-edge m = comesUp m || released m
 
 -- an INS unit was sent after n proving units
 abbrev pub insAfter : ℕ → List Mark → Bool
