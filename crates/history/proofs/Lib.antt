@@ -1,4 +1,5 @@
 pub mod Tested
+pub mod Lawful
 pub mod Walk
 pub mod Table
 pub mod Events

@@ -35,6 +35,7 @@ use Rattle.record.specs.Frame.{written}
 use Rattle.record.specs.SignalRecord.{bodyOf, signalOctets}
 use Rattle.history.specs.History.{Mark, accepted, emitted, with-signals, mps, ups}
 use Rattle.history.specs.Tests.{stands, alive, sent, due, toldIns, heardIns}
+use Rattle.history.proofs.Lawful.{lawful}
 use Rattle.history.proofs.Walk.{Base, held, new, Conn, dead, live, Abs, abs, Found, sentAt, dueAt, ConnIs, Is, Is?, Before, ruleEvent, ruleSignal, signal-ok, event-ok}
 use Rattle.history.proofs.Table.{Now, down, on, serving, now, Sort, begin, level, sign, told, takes, decides, least, counts, still-level, sameOp, fits, ends, leads, sortAt, sign-of, choice-ok}
 use Rattle.history.proofs.Events.{Told}
@@ -50,10 +51,11 @@ pub record Inv (n1 : ℕ) (l : Link) (h : List Mark) : Type 0 where
   pub mps-is : mps h ≡ l .mps
   pub stand-is : stands h ≡ serving (l .state)
   pub now-is : NowIs n1 (now (l .state) (l .ins)) (l .c1) h
+  pub lawful-is : lawful n1 h ≡ true
 
 pub fresh-ok : (n1 : ℕ) → Inv n1 (freshLink n1) []
-unfolding stands alive
-fresh-ok n1 = record { n1-is = refl; ups-is = refl; mps-is = refl; stand-is = refl; now-is = refl }
+unfolding stands alive lawful
+fresh-ok n1 = record { n1-is = refl; ups-is = refl; mps-is = refl; stand-is = refl; now-is = refl; lawful-is = refl }
 
 -- BOOLEANS AND OPERATIONS THAT ARE THE SAME
 beq-eq : (a b : Bool) → Bool·beq a b ≡ true → a ≡ b
@@ -92,7 +94,7 @@ here l = now (l .state) (l .ins)
 -- what an event of a sort and with a parameter finds
 abbrev found : ℕ → Link → List Mark → Sort → ℕ → Found
 found n1 l h s p =
-    record { n1 = n1; ups = l .ups; mps = l .mps; sent = sentOn (here l) h; due = dueOn (here l) n1 (l .c1) h; level = level s (here l); field = p }
+    record { n1 = n1; ups = l .ups; mps = l .mps; sent = sentOn (here l) h; due = dueOn (here l) n1 (l .c1) h; level = level s (here l); above = s .above; field = p }
 
 -- ONE EVENT of a sort s, with code c, parameter p and message m, where the cell sees the parameter `param`; on link k, with the record l and the history h
 module _ (n1 : ℕ) (l : Link) (h : List Mark) (v : Inv n1 l h) (k : ℕ) (m : List ℕ) (s : Sort) (c p param : ℕ) (t : Told s c p (arrived m) (l .c1) param) where
@@ -108,13 +110,16 @@ module _ (n1 : ℕ) (l : Link) (h : List Mark) (v : Inv n1 l h) (k : ℕ) (m : L
   all-sent : level s (here l) ≡ true → sentOn (here l) h ≡ dueOn (here l) n1 (l .c1) h
   all-sent e = omega (arith, left-over (here l) (v .now-is), no-more (here l) (v .now-is) e)
 
+  some-due : s .above ≡ true → 1 ≤ dueOn (here l) n1 (l .c1) h
+  some-due e = omega (arith, left-over (here l) (v .now-is), t .above e)
+
   conn-before : (x : Now) → NowIs n1 x (l .c1) h →
-      ConnIs (record { n1 = n1; ups = l .ups; mps = l .mps; sent = sentOn x h; due = dueOn x n1 (l .c1) h; level = level s x; field = p }) (begin x) h
+      ConnIs (record { n1 = n1; ups = l .ups; mps = l .mps; sent = sentOn x h; due = dueOn x n1 (l .c1) h; level = level s x; above = s .above; field = p }) (begin x) h
   conn-before down i = i
   conn-before (on a g z) i = (i .0, i .1, i .2, omega arith, refl)
 
   before : Before (found n1 l h s p) (abs (serving (l .state)) (begin (here l)) keep keep) h
-  before = (v .stand-is, conn-before (here l) (v .now-is), v .ups-is, v .mps-is)
+  before = (v .stand-is, conn-before (here l) (v .now-is), v .ups-is, v .mps-is, v .lawful-is)
 
   -- the event's mark, and then those of its signals
   first-mark : Is? (found n1 l h s p) (ruleEvent (s .mark) (abs (serving (l .state)) (begin (here l)) keep keep)) (accepted c p (arrived m) ∷ h)
@@ -128,10 +133,10 @@ module _ (n1 : ℕ) (l : Link) (h : List Mark) (v : Inv n1 l h) (k : ℕ) (m : L
     markOf a = emitted (signalOf q n (l .mps) (l .ups) b a .code) (arrived (bodyOf (signalOf q n (l .mps) (l .ups) b a .carries) m))
 
     one-signal : (a : Act) (A : Abs) (g : List Mark) → Is (found n1 l h s p) A g →
-        Is? (found n1 l h s p) (ruleSignal (level s (here l)) (s .long) (sign a .code) (sign a .carries) A) (markOf a ∷ g)
+        Is? (found n1 l h s p) (ruleSignal (level s (here l)) (s .above) (s .long) (sign a .code) (sign a .carries) A) (markOf a ∷ g)
     one-signal a A g i =
         let (x, y) = sign-of q n (l .mps) (l .ups) b a in
-        rw (x, y) (signal-ok (found n1 l h s p) g all-sent m (s .long) (t .long) A i (sign a .code) (sign a .carries))
+        rw (x, y) (signal-ok (found n1 l h s p) g all-sent some-due m (s .long) (t .long) A i (sign a .code) (sign a .carries))
 
     signals-ok : (acts : List Act) (o : Option Abs) (g : List Mark) → Is? (found n1 l h s p) o g →
         Is? (found n1 l h s p) (told (level s (here l)) s acts o) (with-signals (map spoken acts) g)
@@ -139,7 +144,7 @@ module _ (n1 : ℕ) (l : Link) (h : List Mark) (v : Inv n1 l h) (k : ℕ) (m : L
     signals-ok [] o g i = i
     signals-ok (a ∷ acts) none g i = tt
     signals-ok (a ∷ acts) (some A) g i =
-        signals-ok acts (ruleSignal (level s (here l)) (s .long) (sign a .code) (sign a .carries) A) (markOf a ∷ g) (one-signal a A g i)
+        signals-ok acts (ruleSignal (level s (here l)) (s .above) (s .long) (sign a .code) (sign a .carries) A) (markOf a ∷ g) (one-signal a A g i)
 
   -- C1 at the end
   taken : (x : Count) (n : ℕ) → takes x n ≡ true → counted x param l ≡ l .c1 - n
@@ -201,6 +206,7 @@ module _ (n1 : ℕ) (l : Link) (h : List Mark) (v : Inv n1 l h) (k : ℕ) (m : L
         mps-is = i .3 ∙ same-op mpsCode mpsAt mps-back w (r .mps) (left (sameOp mpsCode w (r .mps)) _ e₂) (l .mps);
         stand-is = i .0 ∙ beq-eq st (serving next) (left (Bool·beq st (serving next)) _ e);
         now-is = conn-after (r .c1) y (now next (over (r .ins) (l .ins))) g (right (sameOp mpsCode w (r .mps)) _ e₂) (i .1);
+        lawful-is = i .5;
       }
 
 -- What an outcome leaves, where an event with code c, parameter p and message m came to link k.

@@ -122,7 +122,7 @@ sign a = signalOf 0 link.none Mps.Neutral Ups.Normal link.none a
 abbrev pub told : Bool → Sort → List Act → Option Abs → Option Abs
 told z s [] o = o
 told z s (a ∷ acts) none = none
-told z s (a ∷ acts) (some A) = told z s acts (ruleSignal z (s .long) (sign a .code) (sign a .carries) A)
+told z s (a ∷ acts) (some A) = told z s acts (ruleSignal z (s .above) (s .long) (sign a .code) (sign a .carries) A)
 
 -- a count takes exactly n from C1; it is what Table 7 decides
 abbrev pub takes : Count → ℕ → Bool

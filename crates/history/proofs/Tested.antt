@@ -108,6 +108,13 @@ there h m l e t =
       present = none-after edge h;
     }
 
+pub connection : (h : List Mark) → alive h ≡ true → Connection h
+unfolding alive
+connection h t = by (from edge h) refl t where
+  by : (l : List Mark) → from edge h ≡ l → begins comesUp l ≡ true → Connection h
+  by [] e t = absurd (false≢true t)
+  by (m ∷ l) e t = there h m l e t
+
 abbrev InsAfter : ℕ → List Mark → Type 0
 InsAfter n l = (i : Somewhere insSent l) × (count provingSent (i .earlier) ≡ n)
 

@@ -6,17 +6,23 @@ use Rattle.unit.specs.declared.Mps.{Mps}
 use Rattle.record.specs.Octets.{at}
 use Rattle.sscf.specs.Step.{recordAt}
 use Rattle.history.specs.Calls.{AfterEachCall}
-use Rattle.history.specs.History.{history, Stands, Connection, since, begun, mps, count, provingSent}
+use Rattle.history.specs.History.{history, provingSent, inService, Somewhere, count, Stands, Connection, since, begun, mps, Served}
 
 -- The line in the register: a link's state octet is 8 exactly if it stands in service.
 abbrev pub StateOctet : Type 0
 StateOctet = AfterEachCall (λ w link. (at (recordAt (w .table) link) 2 ≡ 8) ↔ Stands (history w link))
 
--- The second customer. Where management had forced proving when the connection came up, a link that stands in service has sent no fewer than n1 units on it.
+-- "Neither customer may have a link in service before both ends have said they are ready": the conditions of the demand held whenever the in-service indication was given,
+-- of all that was seen before it, also where it was not the last signal of its call.
+abbrev pub NotEarly : Type 0
+NotEarly = AfterEachCall (λ w link. (i : Somewhere inService (history w link)) → Served (w .n1) (i .earlier))
+
+-- The second customer. Where management had forced proving when the connection came up, no in-service indication was given before n1 units had been sent on it.
 abbrev pub ForcedProving : Type 0
 ForcedProving =
-    AfterEachCall (λ w link. Stands (history w link) → (c : Connection (history w link)) → mps (begun c) ≡ Mps.Normal → w .n1 ≤ count provingSent (since c))
+    AfterEachCall (λ w link. (i : Somewhere inService (history w link)) (c : Connection (i .earlier)) → mps (begun c) ≡ Mps.Normal → w .n1 ≤ count provingSent (since c))
 
--- The first customer. Where it had forced emergency, no unit is sent on the connection, in service or not.
+-- The first customer. Every proving unit was sent on a connection, and never on one that came up while management forced emergency.
 abbrev pub ForcedEmergency : Type 0
-ForcedEmergency = AfterEachCall (λ w link. (c : Connection (history w link)) → mps (begun c) ≡ Mps.Emergency → count provingSent (since c) ≡ 0)
+ForcedEmergency =
+    AfterEachCall (λ w link. (u : Somewhere provingSent (history w link)) → (c : Connection (u .earlier)) × (mps (begun c) ≡ Mps.Emergency → ⊥))
