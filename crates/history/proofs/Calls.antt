@@ -5,12 +5,11 @@ use mathlib.Core.List.{List, [], _∷_, map}
 use Prim.Native.Nat.{ℕ, _*_, _/_, _≤_, _<_}
 use native.Mathlib.Omega.{arith}
 use lib.Dec.{eqb, leb}
-use lib.ListN.{length, take}
+use lib.ListN.{length}
 use borrow.Author.Tests.{eqb-true, eqb-false, leb-false}
 use Rattle.unit.specs.declared.Arrived.{Arrived}
 use Rattle.unit.specs.Unit.{arrived}
 use Rattle.link.specs.declared.Link.{Link}
-use Rattle.link.specs.declared.Event.{Event}
 use Rattle.link.specs.declared.Num.{Num}
 use Rattle.link.specs.declared.Signal.{Signal}
 use Rattle.link.specs.Fresh.{freshLink}
@@ -30,7 +29,7 @@ use Rattle.sscf.specs.Fresh as maker
 use Rattle.sscf.specs.Fresh.{freshChecks, freshCall}
 use Rattle.sscf.specs.Untouched.{Written}
 use Rattle.sscf.proofs.Places.{clear}
-use Rattle.sscf.proofs.Taken.{Taken, taken}
+use Rattle.sscf.proofs.Taken.{taken}
 use Rattle.sscf.proofs.Untouched.{either-way, number-above, refusals-untouched, same-lengths, others-untouched, accepted-written}
 use Rattle.sscf.proofs.Copies.{length-copies}
 use Rattle.sscf.proofs.AllFresh.{all-fresh}

@@ -1,7 +1,7 @@
 -- Demand 3: the invariant gives both sides of it at once. Assumes nothing.
 use mathlib.Core.Path.{_≡_, refl, sym, _∙_}
 use mathlib.Core.Logic.{_↔_}
-use mathlib.Core.Bool.{Bool, true, false, _&&_, and-false}
+use mathlib.Core.Bool.{Bool, true, false, and-false}
 use mathlib.Core.List.{List}
 use Prim.Native.Nat.{ℕ}
 use native.Mathlib.Omega.{arith}
@@ -10,11 +10,11 @@ use borrow.Author.Tests.{eq-eqb}
 use Rattle.table6.specs.declared.State.{State}
 use Rattle.sscf.proofs.Untouched.{others-untouched}
 use Rattle.history.specs.History.{Mark, Stands, Served, history}
-use Rattle.history.specs.Tests.{stands, alive, sent, due, toldIns, heardIns, served}
+use Rattle.history.specs.Tests.{stands, sent, due, served}
 use Rattle.history.specs.Demand.{Demand3}
 use Rattle.history.proofs.Tested.{stands-tested, served-tested}
-use Rattle.history.proofs.Table.{Now, down, on, serving, now}
-use Rattle.history.proofs.Step.{NowIs, Inv}
+use Rattle.history.proofs.Table.{down, on, serving, now}
+use Rattle.history.proofs.Step.{NowIs}
 use Rattle.history.proofs.Calls.{Kept, after-each-call}
 
 module _ (n1 c1 : ℕ) (h : List Mark) where

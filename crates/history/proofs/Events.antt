@@ -1,19 +1,17 @@
 -- What the octets of an accepted event say of the row that it meets: the mark is of the row's sort. Assumes nothing.
 use mathlib.Core.Path.{_≡_, refl, sym, subst}
-use mathlib.Core.Bool.{Bool, true, false, cond, _&&_, _||_, true≢false, false≢true}
+use mathlib.Core.Bool.{Bool, true, false, cond, false≢true}
 use mathlib.Core.List.{List, [], _∷_}
 use Prim.Native.Nat.{ℕ, _≤_}
 use native.Mathlib.Omega.{arith}
 use lib.Dec.{eqb}
-use lib.ListN.{getD}
 use borrow.Author.Tests.{eqb-true, eqb-false}
 use Rattle.unit.specs.declared.Arrived.{Arrived}
 use Rattle.link.specs.declared.Num.{Num}
-use Rattle.link.specs.declared.Event.{Event}
 use Rattle.link.specs.Stored.{dataRowOf, viewOf}
 use Rattle.record.specs.declared.events.Coded.{Coded}
 use Rattle.record.specs.EventRecord.{Code, codes, among, codedAt, Each}
-use Rattle.history.proofs.Walk.{Kind, quiet, Of}
+use Rattle.history.proofs.Walk.{Kind, Of}
 use Rattle.history.proofs.Table.{Sort, plain, sortAt}
 
 -- A sort is true of an event: of its code, parameter and what arrived, C1, and the parameter that the cell sees.

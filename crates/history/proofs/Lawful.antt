@@ -1,13 +1,13 @@
 -- What holds at every single mark of a history: the in-service indication is given where the other side of the demand holds, and a proving unit is sent on a connection
 -- that came up without forced emergency. As a test, and as what it says. Assumes nothing.
-use mathlib.Core.Path.{_≡_, refl, sym, ap, subst, _∙_}
+use mathlib.Core.Path.{_≡_, subst}
 use mathlib.Core.Bool.{Bool, true, false, not, _&&_, _||_, false≢true}
 use mathlib.Core.List.{List, [], _∷_, _++_}
 use Prim.Native.Nat.{ℕ}
 use Rattle.unit.specs.declared.Mps.{Mps}
 use Rattle.table6.proofs.Every.{left, right}
 use Rattle.history.specs.History.{Mark, edge, provingSent, inService, Somewhere, mps}
-use Rattle.history.specs.Tests.{from, alive, sent, due, toldIns, heardIns, served}
+use Rattle.history.specs.Tests.{from, alive, served}
 
 abbrev pub isEmergency : Mps → Bool
 isEmergency Mps.Neutral = false

@@ -1,13 +1,12 @@
 -- What a link's record says of its history, and that a step keeps it so. Assumes nothing.
 use mathlib.Core.Path.{_≡_, refl, sym, ap, subst, _∙_}
-use mathlib.Core.Bool.{Bool, true, false, cond, not, _&&_, _||_, Bool·beq, true≢false, false≢true}
+use mathlib.Core.Bool.{Bool, true, false, cond, not, _&&_, _||_, Bool·beq, false≢true}
 use mathlib.Core.List.{List, [], _∷_, _++_, map}
 use mathlib.Core.Option.{Option, none, some}
 use Prim.Native.Nat.{ℕ, zero, suc, _+_, _-_, _≤_}
 use native.Mathlib.Omega.{arith}
 use lib.Dec.{eqb, leb}
 use borrow.Author.Tests.{eqb-true, leb-true}
-use Rattle.unit.specs.declared.Arrived.{Arrived}
 use Rattle.unit.specs.declared.Mps.{Mps}
 use Rattle.unit.specs.declared.Ups.{Ups}
 use Rattle.unit.specs.Unit.{arrived}

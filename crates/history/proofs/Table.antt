@@ -1,8 +1,8 @@
 -- THE TEST OVER TABLE 6, computed: in every cell the marks of the event and of its signals, and what becomes of the record, lead from what a link's state says of its
 -- history to what its next state says. Beside it the law that turns the test into what holds of a choice. Only the line `table-ok` depends on what the table
 -- contains. Assumes nothing.
-use mathlib.Core.Path.{_≡_, refl, ap, subst}
-use mathlib.Core.Bool.{Bool, true, false, cond, not, _&&_, _||_, Bool·beq, true≢false, false≢true}
+use mathlib.Core.Path.{_≡_, refl}
+use mathlib.Core.Bool.{Bool, true, false, cond, not, _&&_, _||_, Bool·beq, false≢true}
 use mathlib.Core.List.{List, [], _∷_, _++_, append-assoc, append-nil}
 use mathlib.Core.Option.{Option, none, some}
 use Prim.Native.Nat.{ℕ, zero, suc}
@@ -21,7 +21,6 @@ use Rattle.table6.specs.Rows.{Printed, one, two, printed, Heading, rows, nowher
 use Rattle.table6.specs.Summary.{Op, keep, put, over, Count, same, decided, less, Summary, still, summary}
 use Rattle.table6.proofs.Every.{left, right, Holds}
 use Rattle.link.specs.declared.Num.{Num}
-use Rattle.link.specs.declared.Carries.{Carries}
 use Rattle.link.specs.declared.Signal.{Signal}
 use Rattle.link.specs.Signal as link
 use Rattle.link.specs.Signal.{signalOf}

@@ -32,4 +32,7 @@ witness =
       not-sent = record { accepted = refl; service = refl; condition = refl };
       not-received = record { accepted = refl; service = refl; condition = refl };
       earlier = record { accepted = refl; service = refl; condition = refl };
+      refused = refl;
+      anew = refl;
+      of-another = refl;
     }

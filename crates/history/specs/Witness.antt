@@ -10,7 +10,7 @@ use Rattle.unit.specs.declared.Status.{Status}
 use Rattle.unit.specs.Unit.{code, unitOf}
 use Rattle.link.specs.Signal.{none, num}
 use Rattle.record.specs.Frame.{EV, written}
-use Rattle.history.specs.Calls.{Call, step, World, made, run}
+use Rattle.history.specs.Calls.{Call, fresh, step, World, made, run}
 use Rattle.history.specs.History.{Mark, history}
 use Rattle.history.specs.Tests.{stands, alive, sent, due, toldIns, heardIns}
 
@@ -99,3 +99,7 @@ pub record Witness : Type 0 where
   pub not-received : Out (START ∷ ESTABLISH-confirm Status.NM ∷ T3 ∷ T3 ∷ T3 ∷ []) (true ∷ true ∷ true ∷ false ∷ [])
   pub earlier :
       Out (START ∷ ESTABLISH-confirm Status.NM ∷ DATA Status.INS ∷ RELEASE-indication 0 ∷ T1 ∷ ESTABLISH-confirm Status.NM ∷ T3 ∷ T3 ∷ T3 ∷ []) (true ∷ true ∷ true ∷ false ∷ [])
+  -- A refused call counts as nothing, a table made anew begins a new history, and what is made for link 1 is none of link 0's.
+  pub refused : history (after (START ∷ START ∷ [])) 1 ≡ history (after (START ∷ [])) 1
+  pub anew : history (after (proved ++ fresh (replicate 16 0) 3 ∷ [])) 1 ≡ []
+  pub of-another : history (after proved) 0 ≡ []
