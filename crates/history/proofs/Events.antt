@@ -14,6 +14,10 @@ use Rattle.record.specs.EventRecord.{Code, codes, among, codedAt, Each}
 use Rattle.history.proofs.Walk.{Kind, Of}
 use Rattle.history.proofs.Table.{Sort, plain, sortAt}
 
+infixr 5 _&_
+abbrev _&_ : {A B : Type 0} → A → B → A × B
+a & b = (a, b)
+
 -- A sort is true of an event: of its code, parameter and what arrived, C1, and the parameter that the cell sees.
 pub record Told (s : Sort) (c p : ℕ) (a : Arrived) (c1 seen : ℕ) : Type 0 where
   pub mark : Of (s .mark) c a
@@ -22,9 +26,12 @@ pub record Told (s : Sort) (c p : ℕ) (a : Arrived) (c1 seen : ℕ) : Type 0 wh
   pub field : s .field ≡ true → seen ≡ p
   pub long : s .long ≡ true → a ≡ Arrived.Long
 
+never : {A : Type 0} → false ≡ true → A
+never e = absurd (false≢true e)
+
 plainly : {k : Kind} {c p : ℕ} {a : Arrived} {c1 seen : ℕ} → Of k c a → Told (plain k) c p a c1 seen
 plainly m =
-    record { mark = m; zero = λ e. absurd (false≢true e); above = λ e. absurd (false≢true e); field = λ e. absurd (false≢true e); long = λ e. absurd (false≢true e) }
+    record { mark = m; zero = never; above = never; field = never; long = never }
 
 module _ (p : ℕ) (n : Num) (len : ℕ) (a : Arrived) (c1 : ℕ) where
   abbrev pub Fits : ℕ → Coded → Type 0
@@ -47,109 +54,49 @@ module _ (p : ℕ) (n : Num) (len : ℕ) (a : Arrived) (c1 : ℕ) where
 
   by-count : (b : Bool) → eqb c1 0 ≡ b → Told (sortAt (cond b 34 33)) 50 p a c1 0
   by-count true e =
-      record { mark = refl; zero = λ x. eqb-true c1 0 e; above = λ x. absurd (false≢true x); field = λ x. absurd (false≢true x); long = λ x. absurd (false≢true x) }
+      record { mark = refl; zero = λ x. eqb-true c1 0 e; above = never; field = never; long = never }
   by-count false e =
-      record { mark = refl; zero = λ x. absurd (false≢true x); above = λ x. omega (arith, eqb-false c1 0 e); field = λ x. absurd (false≢true x); long = λ x. absurd (false≢true x) }
+      record { mark = refl; zero = never; above = λ x. omega (arith, eqb-false c1 0 e); field = never; long = never }
 
   comes-up : {k : Kind} {c : ℕ} → Of k c a → Told (record { mark = k; zero = false; above = false; field = true; long = false }) c p a c1 p
   comes-up m =
-      record { mark = m; zero = λ x. absurd (false≢true x); above = λ x. absurd (false≢true x); field = λ x. refl; long = λ x. absurd (false≢true x) }
+      record { mark = m; zero = never; above = never; field = λ x. refl; long = never }
 
+  -- in the order of document 01's codes
   each-code : Each (λ x. Fits (x .code) (Coded.Of (x .says))) (codes p n len a)
-  each-code = (
-    λ w. record { mark = refl; zero = λ x. absurd (false≢true x); above = λ x. absurd (false≢true x); field = λ x. absurd (false≢true x); long = λ x. w refl },
-    (
-      λ w. plainly refl,  -- EMERGENCY
-      (
-        λ w. plainly refl,
-        (
-          λ w. plainly refl,  -- STOP
-          (
-            λ w. plainly refl,
-            (
-              λ w. plainly refl,
-              (
-                λ w. plainly refl,
-                (
-                  λ w. plainly refl,
-                  (
-                    λ w. plainly refl,
-                    (
-                      λ w. comes-up refl,  -- ESTABLISH-indication
-                      (
-                        λ w. comes-up refl,
-                        (
-                          λ w. plainly refl,  -- RELEASE-indication
-                          (
-                            λ w. plainly refl,
-                            (
-                              λ w. by-arrived a,  -- DATA
-                              (
-                                λ w. plainly refl,
-                                (
-                                  λ w. plainly refl,
-                                  (
-                                    λ w. plainly refl,
-                                    (
-                                      λ w. plainly refl,
-                                      (
-                                        λ w. plainly refl,
-                                        (
-                                          λ w. plainly refl,
-                                          (
-                                            λ w. plainly refl,
-                                            (
-                                              λ w. plainly refl,
-                                              (
-                                                λ w. plainly refl,
-                                                (
-                                                  λ w. plainly refl,  -- FORCE_PROVING
-                                                  (
-                                                    λ w. plainly refl,
-                                                    (
-                                                      λ w. plainly refl,
-                                                      (
-                                                        λ w. plainly refl,
-                                                        (
-                                                          λ w. plainly refl,
-                                                          (
-                                                            λ w. plainly refl,
-                                                            (
-                                                              λ w. plainly refl,
-                                                              (
-                                                                λ w. by-count (eqb c1 0) refl,  -- T3
-                                                                tt,
-                                                              ),
-                                                            ),
-                                                          ),
-                                                        ),
-                                                      ),
-                                                    ),
-                                                  ),
-                                                ),
-                                              ),
-                                            ),
-                                          ),
-                                        ),
-                                      ),
-                                    ),
-                                  ),
-                                ),
-                              ),
-                            ),
-                          ),
-                        ),
-                      ),
-                    ),
-                  ),
-                ),
-              ),
-            ),
-          ),
-        ),
-      ),
-    ),
-  )
+  each-code =
+      (λ w. record { mark = refl; zero = never; above = never; field = never; long = λ x. w refl })  -- MESSAGE_FOR_TRANSMISSION
+      & (λ w. plainly refl)  -- EMERGENCY
+      & (λ w. plainly refl)  -- EMERGENCY_CEASES
+      & (λ w. plainly refl)  -- STOP
+      & (λ w. plainly refl)  -- START
+      & (λ w. plainly refl)  -- RETRIEVE_BSNT
+      & (λ w. plainly refl)  -- RETRIEVAL_REQUEST_AND_FSNC
+      & (λ w. plainly refl)  -- FLUSH_BUFFERS
+      & (λ w. plainly refl)  -- CONTINUE
+      & (λ w. comes-up refl)  -- ESTABLISH-indication
+      & (λ w. comes-up refl)  -- ESTABLISH-confirm
+      & (λ w. plainly refl)  -- RELEASE-indication
+      & (λ w. plainly refl)  -- RELEASE-confirm
+      & (λ w. by-arrived a)  -- DATA
+      & (λ w. plainly refl)  -- RESYNC
+      & (λ w. plainly refl)  -- RECOVER
+      & (λ w. plainly refl)  -- UNITDATA
+      & (λ w. plainly refl)  -- RETRIEVE
+      & (λ w. plainly refl)  -- RETRIEVE_COMPLETE
+      & (λ w. plainly refl)  -- PROVING_UNSUCCESSFUL
+      & (λ w. plainly refl)  -- RELEASE
+      & (λ w. plainly refl)  -- outage
+      & (λ w. plainly refl)  -- recovered
+      & (λ w. plainly refl)  -- FORCE_PROVING
+      & (λ w. plainly refl)  -- FORCE_EMERGENCY
+      & (λ w. plainly refl)  -- CLEAR_FORCE_MODES
+      & (λ w. plainly refl)  -- congestion
+      & (λ w. plainly refl)  -- congestion ceased
+      & (λ w. plainly refl)  -- T1
+      & (λ w. plainly refl)  -- T2
+      & (λ w. by-count (eqb c1 0) refl)  -- T3
+      & tt
 
   pub fits : (c : ℕ) → Fits c (codedAt c p n len a)
   unfolding codedAt

@@ -9,7 +9,7 @@ use Rattle.record.specs.Frame.{headOctets, lengthAt}
 use Rattle.sscf.specs.Step.{records, Outcome, stepCall}
 use Rattle.sscf.specs.Fresh.{freshCall}
 
--- "Any sequence of calls": a table made anew in a buffer, or a step on the table that there is. Any octets, of any length; the output is room of its own.
+-- A call: a table made anew in a buffer, or a step on the table that there is, "lent as a table and never as room for other output". Any octets, of any length.
 pub data Call : Type 0 where
   fresh : (buffer : List ℕ) (n1 : ℕ) → Call
   step : (event output : List ℕ) → Call
@@ -47,7 +47,7 @@ stepped w e after =
       seen = cond (eqb (after .answer .refusal) 0) (record { event = e; signals = signalsIn after } ∷ w .seen) (w .seen);
     }
 
--- One call. What made no table leaves the table that there is.
+-- One call. A table that was made takes the place of the one that there is; where none was made, that one is as it was.
 unfoldable pub next : World → Call → World
 next w (fresh buffer n1) = cond (eqb (freshCall buffer n1 .answer) 0) (made buffer n1) w
 next w (step e o) = stepped w e (stepCall (w .table) e o)
@@ -56,8 +56,8 @@ unfoldable pub run : World → List Call → World
 run w [] = w
 run w (c ∷ calls) = run (next w c) calls
 
--- "Take a fresh table altered only by these calls, and any sequence of calls. After each call": what then holds of each link of the table. Every sequence is
--- meant, so every beginning of one too.
+-- "Take a fresh table altered only by these calls, and any sequence of calls. After each call", for each link of the table. It is said of every sequence, so of
+-- every beginning of one.
 abbrev pub AfterEachCall : (World → ℕ → Type 0) → Type 0
 AfterEachCall P =
     (buffer : List ℕ) (n1 : ℕ) → freshCall buffer n1 .answer ≡ 0 →

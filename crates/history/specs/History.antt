@@ -1,4 +1,4 @@
--- The history of one link, and what each phrase of demand 3 says of it. It is told from what the host saw alone: no record of a link is read.
+-- The history of one link, and a definition for each phrase of demand 3. All is told from what the host saw: no record of a link is read.
 use Prim.Native.Nat.{ℕ, zero, suc}
 use mathlib.Core.Path.{_≡_}
 use mathlib.Core.Bool.{Bool, true, false, cond, not, _&&_, _||_}
@@ -72,7 +72,7 @@ comesUp m = event 17 m || signal 17 m
 abbrev pub released : Mark → Bool
 released m = signal 18 m || event 18 m
 
--- A mark that ends what was seen on a connection before it, or begins what is seen on one.
+-- Where what is seen on one connection begins or ends.
 abbrev pub edge : Mark → Bool
 edge m = comesUp m || released m
 
@@ -111,7 +111,7 @@ abbrev pub count : (Mark → Bool) → List Mark → ℕ
 count p [] = zero
 count p (m ∷ h) = cond (p m) (suc (count p h)) (count p h)
 
--- "Standing in service means that, of the three, there was one and the in-service indication was the latest."
+-- "Standing in service means that, of [the three], there was one and the in-service indication was the latest."
 pub record Stands (h : List Mark) : Type 0 where
   pub indication : Somewhere inService h
   pub latest : none turn (indication .later) ≡ true
@@ -128,12 +128,12 @@ since c = c .up .later
 abbrev pub begun : {h : List Mark} → Connection h → List Mark
 begun c = c .up .mark ∷ c .up .earlier
 
--- MPS: the mode that management has forced. FORCE_PROVING, FORCE_EMERGENCY, CLEAR_FORCE_MODES.
+-- MPS, what management forces: by FORCE_PROVING, by FORCE_EMERGENCY, nothing after CLEAR_FORCE_MODES.
 abbrev pub mps : List Mark → Mps
 mps [] = Mps.Neutral
 mps (m ∷ h) = cond (event 36 m) Mps.Normal (cond (event 37 m) Mps.Emergency (cond (event 38 m) Mps.Neutral (mps h)))
 
--- UPS: what the user wishes. EMERGENCY; EMERGENCY_CEASES. A link that is out of service, by the user's STOP or by an indication, is without haste again.
+-- UPS, what the user wishes: by EMERGENCY, and no more after EMERGENCY_CEASES, the user's STOP or the out-of-service indication.
 abbrev pub ups : List Mark → Ups
 ups [] = Ups.Normal
 ups (m ∷ h) = cond (event 2 m) Ups.Emergency (cond (event 3 m || event 4 m || signal 5 m) Ups.Normal (ups h))
@@ -144,7 +144,7 @@ field [] = 0
 field (accepted code param holds ∷ h) = param
 field (emitted code holds ∷ h) = field h
 
--- "The number of proving units that Table 7 decided", where a connection comes up with the latest mark.
+-- "The number of proving units that Table 7 decided for that connection", where it comes up with the latest mark.
 abbrev pub decided : ℕ → List Mark → ℕ
 decided n1 h = table7 (mps h) (ups h) (asked (field h)) n1
 
