@@ -37,7 +37,7 @@ module _ (n1 c1 : ℕ) (h : List Mark) where
   by-state State.S2104 flag i = told false i
   by-state State.S3105 flag i = told true i
 
-pub alike : (n1 : ℕ) (r : List ℕ) (h : List Mark) → Kept n1 r h → stands h ≡ served n1 h
+alike : (n1 : ℕ) (r : List ℕ) (h : List Mark) → Kept n1 r h → stands h ≡ served n1 h
 alike n1 r h k = k .inv .stand-is ∙ sym (by-state n1 (k .link .c1) h (k .link .state) (k .link .ins) (k .inv .now-is))
 
 in-words : (n1 : ℕ) (h : List Mark) → stands h ≡ served n1 h → Stands h ↔ Served n1 h

@@ -64,7 +64,7 @@ pub record Sort : Type 0 where
 abbrev pub plain : Kind → Sort
 plain k = record { mark = k; zero = false; above = false; field = false; long = false }
 
-abbrev pub sorts : List Sort
+abbrev sorts : List Sort
 sorts =
     record { mark = quiet; zero = false; above = false; field = false; long = true }  -- MESSAGE_FOR_TRANSMISSION
     ∷ plain (wishes Ups.Emergency)
@@ -179,20 +179,20 @@ never Source=User flag = false
 never BSNT-available flag = false
 never MU>4 flag = false
 
-abbrev pub in-cell : (List Act → State → Bool) → Bool → List Act → Cell → Bool
+abbrev in-cell : (List Act → State → Bool) → Bool → List Act → Cell → Bool
 in-cell t flag acts Illegal = true
 in-cell t flag acts (to next) = t acts next
 in-cell t flag acts (a ⨟ c) = in-cell t flag (acts ++ a ∷ []) c
 in-cell t flag acts (IF q THEN c ELSE d) = cond (never q flag) true (in-cell t flag acts c) && in-cell t flag acts d
 
-abbrev pub in-row : Sort → State → Bool → List Act → Row → Bool
+abbrev in-row : Sort → State → Bool → List Act → Row → Bool
 in-row s st flag arrives r = in-cell (leads s st flag arrives) flag [] (cell r st)
 
-abbrev pub in-printed : Sort → State → Bool → List Act → Printed → Bool
+abbrev in-printed : Sort → State → Bool → List Act → Printed → Bool
 in-printed s st flag arrives (one r) = in-row s st flag arrives r
 in-printed s st flag arrives (two q r w) = in-row s st flag arrives r && in-row s st flag arrives w
 
-abbrev pub in-rows : State → Bool → List Sort → List Heading → Bool
+abbrev in-rows : State → Bool → List Sort → List Heading → Bool
 in-rows st flag [] [] = true
 in-rows st flag [] (h ∷ hs) = false
 in-rows st flag (s ∷ ss) [] = false

@@ -83,13 +83,13 @@ module _ {h : List Mark} (c : Connection h) where
   edged : edge (c .up .mark) ≡ true
   edged = rw (c .up .passes)
 
-  pub on-it : after edge h ≡ since c
+  on-it : after edge h ≡ since c
   on-it = ap (after edge) (c .up .whole) ∙ after-there edge (c .up .mark) (c .up .earlier) edged (since c) (c .present)
 
   pub begun-there : from edge h ≡ begun c
   begun-there = ap (from edge) (c .up .whole) ∙ from-there edge (c .up .mark) (c .up .earlier) edged (since c) (c .present)
 
-  pub alive-there : alive h ≡ true
+  alive-there : alive h ≡ true
   unfolding alive
   alive-there = ap (begins comesUp) begun-there ∙ c .up .passes
 

@@ -45,7 +45,7 @@ pub record Found : Type 0 where
   pub above : Bool
   pub field : ℕ
 
-abbrev pub wanted : Found → ℕ
+abbrev wanted : Found → ℕ
 wanted f = table7 (f .mps) (f .ups) (asked (f .field)) (f .n1)
 
 abbrev pub sentAt : Found → Base → ℕ
