@@ -20,18 +20,19 @@ pub witness : Witness
 unfolding unitOf kind arrived decoded asked table7 table8 AAL-START-request AAL-STOP-request AAL-EMERGENCY-request AA-ESTABLISH-indication-with-EM-NM AA-ESTABLISH-confirm-with-EM-NM AA-RELEASE-indication-from-User AA-RELEASE-indication-from-SSCOP AA-DATA-indication-with-INS MAAL-RELEASE-request MAAL-FORCE-EMERGENCY-request T1-expires T3-expires-and-C1>0 T3-expires-and-C1=0 stepOf over putAt octetsOf linkOf wellFormed written framedAs codedAt misfit joined stepCall freshCall next run marks stands alive sent due toldIns heardIns
 witness =
     record {
-      with-proving = record { accepted = refl; service = refl; condition = refl };
-      without = record { accepted = refl; service = refl; condition = refl };
-      by-wish = record { accepted = refl; service = refl; condition = refl };
-      not-up = record { accepted = refl; service = refl; condition = refl };
-      by-this-end = record { accepted = refl; service = refl; condition = refl };
-      by-far-end = record { accepted = refl; service = refl; condition = refl };
-      by-SSCOP = record { accepted = refl; service = refl; condition = refl };
-      by-stop = record { accepted = refl; service = refl; condition = refl };
-      one-unit = record { accepted = refl; service = refl; condition = refl };
-      not-sent = record { accepted = refl; service = refl; condition = refl };
-      not-received = record { accepted = refl; service = refl; condition = refl };
-      earlier = record { accepted = refl; service = refl; condition = refl };
+      begins = refl;
+      with-proving = record { links = refl; accepted = refl; service = refl; condition = refl };
+      without = record { links = refl; accepted = refl; service = refl; condition = refl };
+      by-wish = record { links = refl; accepted = refl; service = refl; condition = refl };
+      not-up = record { links = refl; accepted = refl; service = refl; condition = refl };
+      by-this-end = record { links = refl; accepted = refl; service = refl; condition = refl };
+      by-far-end = record { links = refl; accepted = refl; service = refl; condition = refl };
+      by-SSCOP = record { links = refl; accepted = refl; service = refl; condition = refl };
+      by-stop = record { links = refl; accepted = refl; service = refl; condition = refl };
+      one-unit = record { links = refl; accepted = refl; service = refl; condition = refl };
+      not-sent = record { links = refl; accepted = refl; service = refl; condition = refl };
+      not-received = record { links = refl; accepted = refl; service = refl; condition = refl };
+      earlier = record { links = refl; accepted = refl; service = refl; condition = refl };
       refused = refl;
       anew = refl;
       of-another = refl;

@@ -10,6 +10,8 @@ use Rattle.unit.specs.declared.Status.{Status}
 use Rattle.unit.specs.Unit.{code, unitOf}
 use Rattle.link.specs.Signal.{none, num}
 use Rattle.record.specs.Frame.{EV, written}
+use Rattle.sscf.specs.Step.{records}
+use Rattle.sscf.specs.Fresh.{freshCall}
 use Rattle.history.specs.Calls.{Call, fresh, step, World, made, run}
 use Rattle.history.specs.History.{Mark, history}
 use Rattle.history.specs.Tests.{stands, alive, sent, due, toldIns, heardIns}
@@ -56,7 +58,7 @@ RELEASE-indication source = step (written EV 1 18 0 (num 0 0 source) []) room
 abbrev pub DATA : Status → Call
 DATA s = step (written EV 1 20 0 none (unitOf s)) room
 
--- WHAT A SEQUENCE SHOWS: all its calls are accepted, link 1 stands in service or not, and of the four conditions these hold: the connection, the number of units, the INS
+-- WHAT A SEQUENCE SHOWS: the table has two links, all calls are accepted, link 1 stands in service or not, and of the four conditions these hold: the connection, the number of units, the INS
 -- unit after them, the peer's INS unit.
 
 abbrev pub after : List Call → World
@@ -66,6 +68,7 @@ abbrev pub conditions : List Mark → List Bool
 conditions h = alive h ∷ eqb (sent h) (due 2 h) ∷ toldIns 2 h ∷ heardIns h ∷ []
 
 pub record Shows (calls : List Call) (in-service : Bool) (hold : List Bool) : Type 0 where
+  pub links : records (after calls .table) ≡ 2
   pub accepted : length (after calls .seen) ≡ length calls
   pub service : stands (history (after calls) 1) ≡ in-service
   pub condition : conditions (history (after calls) 1) ≡ hold
@@ -81,6 +84,7 @@ abbrev pub proved : List Call
 proved = START ∷ ESTABLISH-confirm Status.NM ∷ T3 ∷ T3 ∷ DATA Status.INS ∷ T3 ∷ []
 
 pub record Witness : Type 0 where
+  pub begins : freshCall (replicate 32 0) 2 .answer ≡ 0
   -- IN SERVICE, with proving and without: forced by management, or by the user's wish, where the peer calls
   pub with-proving : In proved
   pub without : In (FORCE-EMERGENCY ∷ START ∷ ESTABLISH-confirm Status.NM ∷ T3 ∷ DATA Status.INS ∷ [])
