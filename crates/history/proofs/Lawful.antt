@@ -1,5 +1,5 @@
--- What holds at every single mark of a history: the in-service indication is given where the other side of the demand holds, and a proving unit is sent on a connection
--- that came up without forced emergency. As a test, and as what it says. Assumes nothing.
+-- What holds at every single mark of a history: the in-service indication is given where the other side of the demand holds, and a proving unit is sent on a
+-- connection that came up without forced emergency. As a test, and as what it says. Assumes nothing.
 use mathlib.Core.Path.{_≡_, subst}
 use mathlib.Core.Bool.{Bool, true, false, not, _&&_, _||_, false≢true}
 use mathlib.Core.List.{List, [], _∷_, _++_}

@@ -1,6 +1,6 @@
--- THE TEST OVER TABLE 6, computed: in every cell the marks of the event and of its signals, and what becomes of the record, lead from what a link's state says of its
--- history to what its next state says. Beside it the law that turns the test into what holds of a choice. Only the line `table-ok` depends on what the table
--- contains. Assumes nothing.
+-- THE TEST OVER TABLE 6, computed: in every cell the marks of the event and of its signals, and what becomes of the record, lead from what a link's state
+-- says of its history to what its next state says. Beside it the law that turns the test into what holds of a choice. Only `table-ok` depends on what the
+-- table contains. Assumes nothing.
 use mathlib.Core.Path.{_≡_, refl}
 use mathlib.Core.Bool.{Bool, true, false, cond, not, _&&_, _||_, Bool·beq, false≢true}
 use mathlib.Core.List.{List, [], _∷_, _++_, append-assoc, append-nil}

@@ -21,8 +21,8 @@ use Rattle.history.specs.History.{Mark, accepted, emitted, isNM, isINS, 
 use Rattle.history.specs.Tests.{from, stands, alive, sent, due, toldIns, heardIns}
 use Rattle.history.proofs.Lawful.{isEmergency, lawful}
 
--- THE HISTORY, ABSTRACTLY. A connection is the one of before the event, or it came up in it; INS sent, INS received, how many units were sent in the event. Then
--- what has become of UPS and of MPS, as the history tells them.
+-- THE HISTORY, ABSTRACTLY. Whether the link stands in service. A connection, that of before the event or one that came up in it: INS sent, INS received, how
+-- many units were sent in the event. What has become of UPS and of MPS, as the history tells them.
 pub data Base : Type 0 where
   held new : Base
 
@@ -33,8 +33,8 @@ pub data Conn : Type 0 where
 pub data Abs : Type 0 where
   abs : Bool → Conn → Op Ups → Op Mps → Abs
 
--- What the event found: n1, UPS, MPS, the units sent and due on the connection, whether these are known to be as many, whether some are known to be due; and the
--- event's field.
+-- What the event found: n1, UPS, MPS, the units sent and due on the connection, whether these are known to be as many, whether some are known to be due; and
+-- the event's field.
 pub record Found : Type 0 where
   pub n1 : ℕ
   pub ups : Ups

@@ -148,8 +148,8 @@ field (emitted code holds ∷ h) = field h
 abbrev pub decided : ℕ → List Mark → ℕ
 decided n1 h = table7 (mps h) (ups h) (asked (field h)) n1
 
--- THE OTHER SIDE. "Its present connection came up and has not been released by either end or by SSCOP, the number of proving units that Table 7 decided for that
--- connection was sent, its INS unit was sent after them, and the peer's INS unit was received on that same connection."
+-- THE OTHER SIDE. "Its present connection came up and has not been released by either end or by SSCOP, the number of proving units that Table 7 decided for
+-- that connection was sent, its INS unit was sent after them, and the peer's INS unit was received on that same connection": one connection in all of it.
 pub record Served (n1 : ℕ) (h : List Mark) : Type 0 where
   pub connection : Connection h
   pub proved : count provingSent (since connection) ≡ decided n1 (begun connection)

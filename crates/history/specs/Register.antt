@@ -12,8 +12,8 @@ use Rattle.history.specs.History.{history, provingSent, inService, Somew
 abbrev pub StateOctet : Type 0
 StateOctet = AfterEachCall (λ w link. (at (recordAt (w .table) link) 2 ≡ 8) ↔ Stands (history w link))
 
--- "Neither customer may have a link in service before both ends have said they are ready": the conditions of the demand held whenever the in-service indication was given,
--- of all that was seen before it, also where it was not the last signal of its call.
+-- "Neither customer may have a link in service before both ends have said they are ready": whenever the in-service indication was given, the conditions of
+-- the demand held of all that was seen before it, not only when its call was over.
 abbrev pub NotEarly : Type 0
 NotEarly = AfterEachCall (λ w link. (i : Somewhere inService (history w link)) → Served (w .n1) (i .earlier))
 

@@ -1,5 +1,5 @@
--- Histories that the checker computes, on octets and through both calls, so that nobody has to wonder whether the demand is empty: three in which a link comes into
--- service, and for each condition of the demand some in which it fails and the link does not.
+-- Histories that the checker computes, on octets and through both calls, so that nobody has to wonder whether the demand is empty: three in which a link
+-- comes into service, and for each condition of the demand one in which it fails and the link does not stand in service.
 use Prim.Native.Nat.{ℕ}
 use mathlib.Core.Path.{_≡_}
 use mathlib.Core.Bool.{Bool, true, false}
@@ -58,8 +58,8 @@ RELEASE-indication source = step (written EV 1 18 0 (num 0 0 source) []) room
 abbrev pub DATA : Status → Call
 DATA s = step (written EV 1 20 0 none (unitOf s)) room
 
--- WHAT A SEQUENCE SHOWS: the table has two links, all calls are accepted, link 1 stands in service or not, and of the four conditions these hold: the connection, the number of units, the INS
--- unit after them, the peer's INS unit.
+-- WHAT A SEQUENCE SHOWS: the table has two links, all calls are accepted, link 1 stands in service or not, and these of the four conditions hold: the present
+-- connection, the number of units sent on it, the INS unit after them, the peer's INS unit.
 
 abbrev pub after : List Call → World
 after calls = run (made (replicate 32 0) 2) calls
@@ -89,13 +89,14 @@ pub record Witness : Type 0 where
   pub with-proving : In proved
   pub without : In (FORCE-EMERGENCY ∷ START ∷ ESTABLISH-confirm Status.NM ∷ T3 ∷ DATA Status.INS ∷ [])
   pub by-wish : In (START ∷ RELEASE-indication 0 ∷ EMERGENCY ∷ ESTABLISH-indication Status.NM ∷ T3 ∷ DATA Status.INS ∷ [])
-  -- THE CONNECTION: it has not come up; it was released by this end, by the far end, by SSCOP, by the user's stop
+  -- THE CONNECTION: none has come up; it was released by this end, by the far end, by SSCOP, by the user's stop. All else was done on it (`with-proving`), and
+  -- is nothing to the present connection, which there is not.
   pub not-up : Out (START ∷ []) (false ∷ false ∷ false ∷ false ∷ [])
   pub by-this-end : Out (proved ++ RELEASE ∷ []) (false ∷ false ∷ false ∷ false ∷ [])
   pub by-far-end : Out (proved ++ RELEASE-indication 0 ∷ []) (false ∷ false ∷ false ∷ false ∷ [])
   pub by-SSCOP : Out (proved ++ RELEASE-indication 1 ∷ []) (false ∷ false ∷ false ∷ false ∷ [])
   pub by-stop : Out (proved ++ STOP ∷ []) (false ∷ false ∷ false ∷ false ∷ [])
-  -- THE UNITS: one of two was sent. The INS unit cannot have been sent after them then.
+  -- THE UNITS: one of two was sent; the INS unit, which comes after them, cannot have been.
   pub one-unit : Out (START ∷ ESTABLISH-confirm Status.NM ∷ T3 ∷ DATA Status.INS ∷ []) (true ∷ false ∷ false ∷ true ∷ [])
   -- THE INS UNIT
   pub not-sent : Out (START ∷ ESTABLISH-confirm Status.NM ∷ T3 ∷ T3 ∷ DATA Status.INS ∷ []) (true ∷ true ∷ false ∷ true ∷ [])
@@ -103,7 +104,7 @@ pub record Witness : Type 0 where
   pub not-received : Out (START ∷ ESTABLISH-confirm Status.NM ∷ T3 ∷ T3 ∷ T3 ∷ []) (true ∷ true ∷ true ∷ false ∷ [])
   pub earlier :
       Out (START ∷ ESTABLISH-confirm Status.NM ∷ DATA Status.INS ∷ RELEASE-indication 0 ∷ T1 ∷ ESTABLISH-confirm Status.NM ∷ T3 ∷ T3 ∷ T3 ∷ []) (true ∷ true ∷ true ∷ false ∷ [])
-  -- A refused call counts as nothing, a table made anew begins a new history, and what is made for link 1 is none of link 0's.
+  -- A refused call counts as nothing, a table made anew begins a new history, and what comes to link 1 does not come to link 0.
   pub refused : history (after (START ∷ START ∷ [])) 1 ≡ history (after (START ∷ [])) 1
   pub anew : history (after (proved ++ fresh (replicate 16 0) 3 ∷ [])) 1 ≡ []
   pub of-another : history (after proved) 0 ≡ []
