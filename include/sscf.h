@@ -35,6 +35,15 @@
  * OUT_OF_SERVICE; its own STOP, once accepted, takes the link out of service with no
  * OUT_OF_SERVICE to follow.
  *
+ * It is never in service too early. Of every table that sscf_fresh made and that nothing but the
+ * two calls has written into since, after every sequence of calls, this is proved: a link is in
+ * service exactly if its present connection came up and has not been released by either end or by
+ * SSCOP, as many proving units as Q.2140's Table 7 decided for that connection were sent on it,
+ * its INS unit was sent after them, and the peer's INS unit was received on that same connection.
+ * All of it held already whenever IN_SERVICE was given. Where management had forced proving
+ * (FORCE_PROVING) when the connection came up, these are n1 units; where it had forced emergency
+ * (FORCE_EMERGENCY), none is ever sent.
+ *
  * A FIRST USE
  *
  *     uint8_t table[4 * SSCF_LINK_OCTETS];
