@@ -3,7 +3,7 @@
 -- table contains. Assumes nothing.
 use mathlib.Core.Path.{_≡_, refl}
 use mathlib.Core.Bool.{Bool, true, false, cond, not, _&&_, _||_, Bool·beq, false≢true}
-use mathlib.Core.List.{List, [], _∷_, _++_, append-assoc, append-nil}
+use mathlib.Core.List.{List, [], _∷_, _++_, append-nil}
 use mathlib.Core.Option.{Option, none, some}
 use Prim.Native.Nat.{ℕ, zero, suc}
 use lib.Dec.{eqb, leb}
@@ -14,12 +14,12 @@ use Rattle.unit.specs.declared.Ups.{Ups}
 use Rattle.unit.specs.Proving.{mpsCode, upsCode}
 use Rattle.table6.specs.declared.State.{State}
 use Rattle.table6.specs.declared.Facts.{Facts}
-use Rattle.table6.specs.Cell.{Act, AAL-RECEIVED-MESSAGE-indication, AAL-LINK-CONGESTED-indication, AAL-LINK-CONGESTION-CEASED-indication, AAL-IN-SERVICE-indication, AAL-OUT-OF-SERVICE-indication, AAL-RETRIEVED-MESSAGES-indication, AAL-RETRIEVAL-COMPLETE-indication, AAL-BSNT-confirm, AAL-BSNT-NOT-RETRIEVABLE-confirm, AA-ESTABLISH-request, AA-ESTABLISH-response, AA-RELEASE-request, AA-DATA-request, AA-RECOVER-response, AA-RETRIEVE-request, MAAL-PROVING-indication, MAAL-STOP-PROVING-indication, MAAL-REPORT-indication, Set-UPS=NM, Set-UPS=EM, Set-MPS=N, Set-MPS=NM, Set-MPS=EM, Set-LPO=0, Set-LPO=1, Set-INS-flag, Reset-INS-flag, Generate-N1, Set-C1=N1, Decrement-C1, Set, Reset, connection-up, take-BSNT, end, Cond, LPO=0, LPO=0&INS=0, LPO=0&INS=1, UU=EM-or-NM, Source=User, BSNT-available, MU>4, holds, Cell, Illegal, to, _⨟_, IF_THEN_ELSE_, Row, cell, Choice, illegal, does, after, chosen}
+use Rattle.table6.specs.Cell.{Act, AAL-RECEIVED-MESSAGE-indication, AAL-LINK-CONGESTED-indication, AAL-LINK-CONGESTION-CEASED-indication, AAL-IN-SERVICE-indication, AAL-OUT-OF-SERVICE-indication, AAL-RETRIEVED-MESSAGES-indication, AAL-RETRIEVAL-COMPLETE-indication, AAL-BSNT-confirm, AAL-BSNT-NOT-RETRIEVABLE-confirm, AA-ESTABLISH-request, AA-ESTABLISH-response, AA-RELEASE-request, AA-DATA-request, AA-RECOVER-response, AA-RETRIEVE-request, MAAL-PROVING-indication, MAAL-STOP-PROVING-indication, MAAL-REPORT-indication, Set-UPS=NM, Set-UPS=EM, Set-MPS=N, Set-MPS=NM, Set-MPS=EM, Set-LPO=0, Set-LPO=1, Set-INS-flag, Reset-INS-flag, Generate-N1, Set-C1=N1, Decrement-C1, Set, Reset, connection-up, take-BSNT, end, Cond, LPO=0, LPO=0&INS=0, LPO=0&INS=1, UU=EM-or-NM, Source=User, BSNT-available, MU>4, holds, Cell, Illegal, to, _⨟_, IF_THEN_ELSE_, Row, cell, chosen}
 use Rattle.table6.specs.Table6.{AAL-MESSAGE-FOR-TRANSMISSION-request, AAL-EMERGENCY-request, AAL-EMERGENCY-CEASES-request, AAL-STOP-request, AAL-START-request, AAL-RETRIEVE-BSNT-request, AAL-RETRIEVAL-REQUEST-AND-FSNC-request, AAL-FLUSH-BUFFERS-request, AAL-CONTINUE-request, AA-ESTABLISH-indication-with-EM-NM, AA-ESTABLISH-indication-with-others, AA-ESTABLISH-confirm-with-EM-NM, AA-ESTABLISH-confirm-with-others, AA-RELEASE-indication-from-User, AA-RELEASE-indication-from-SSCOP, AA-RELEASE-confirm, AA-DATA-indication-with-INS, AA-DATA-indication-with-NM, AA-DATA-indication-with-other, AA-DATA-indication-with-MU>4, AA-RESYNC-indication, AA-RECOVER-indication, AA-UNITDATA-indication, AA-RETRIEVE-indication, AA-RETRIEVE-COMPLETE-indication, MAAL-PROVING-UNSUCCESSFUL-response, MAAL-RELEASE-request, MAAL-LOCAL-PROCESSOR-OUTAGE-request, MAAL-LOCAL-PROCESSOR-RECOVERED-request, MAAL-FORCE-PROVING-request, MAAL-FORCE-EMERGENCY-request, MAAL-CLEAR-FORCE-MODES-request, Local-Congestion, Local-Congestion-Ceased, T1-expires, T2-expires, T3-expires-and-C1>0, T3-expires-and-C1=0}
 use Rattle.table6.specs.Order.{signals}
 use Rattle.table6.specs.Rows.{Printed, one, two, printed, Heading, rows, nowhere, heading}
 use Rattle.table6.specs.Summary.{Op, keep, put, over, Count, same, decided, less, Summary, still, summary}
-use Rattle.table6.proofs.Every.{left, right, Holds}
+use Rattle.table6.proofs.Every.{left, right, Holds, one-more, no-row}
 use Rattle.link.specs.declared.Num.{Num}
 use Rattle.link.specs.declared.Signal.{Signal}
 use Rattle.link.specs.Signal as link
@@ -266,10 +266,6 @@ possible Source=User f h = refl
 possible BSNT-available f h = refl
 possible MU>4 f h = refl
 
-one-more : (t : List Act → State → Bool) (acts : List Act) (a : Act) (x : Choice) → Holds t (acts ++ a ∷ []) x → Holds t acts (after a x)
-one-more t acts a illegal h = tt
-one-more t acts a (does more next) h = rw append-assoc at h
-
 of-cell : (t : List Act → State → Bool) (acts : List Act) (c : Cell) (f : Facts) → in-cell t (f .ins) acts c ≡ true → Holds t acts (chosen f c)
 of-cell t acts Illegal f h = tt
 of-cell t acts (to next) f h = rw append-nil h
@@ -294,18 +290,8 @@ module _ (st : State) (f : Facts) where
   abbrev At : Sort → Heading → Type 0
   At s h = Holds (leads s st (f .ins) (h .arrives)) [] (chosen f (cell (printed f (h .row)) st))
 
-  no-row : (x : State) → cell (printed f (nowhere .row)) x ≡ Illegal
-  no-row State.S111 = refl
-  no-row State.S141 = refl
-  no-row State.S212 = refl
-  no-row State.S222 = refl
-  no-row State.S242 = refl
-  no-row State.S2103 = refl
-  no-row State.S2104 = refl
-  no-row State.S3105 = refl
-
   of-rows : (ss : List Sort) (hs : List Heading) → in-rows st (f .ins) ss hs ≡ true → (row : ℕ) → At (getD ss row (plain quiet)) (getD hs row nowhere)
-  of-rows [] [] h row = rw (no-row st) tt
+  of-rows [] [] h row = rw (no-row f st) tt
   of-rows [] (x ∷ hs) h row = absurd (false≢true h)
   of-rows (s ∷ ss) [] h row = absurd (false≢true h)
   of-rows (s ∷ ss) (x ∷ hs) h zero = of-printed s (x .arrives) (x .row) (left (in-printed s st (f .ins) (x .arrives) (x .row)) (in-rows st (f .ins) ss hs) h)

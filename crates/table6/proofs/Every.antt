@@ -48,7 +48,7 @@ abbrev pub Holds : (List Act → State → Bool) → List Act → Choice → Typ
 Holds t acts illegal = Unit {0}
 Holds t acts (does more next) = t (acts ++ more) next ≡ true
 
-one-more : (t : List Act → State → Bool) (acts : List Act) (a : Act) (x : Choice) → Holds t (acts ++ a ∷ []) x → Holds t acts (after a x)
+pub one-more : (t : List Act → State → Bool) (acts : List Act) (a : Act) (x : Choice) → Holds t (acts ++ a ∷ []) x → Holds t acts (after a x)
 one-more t acts a illegal h = tt
 one-more t acts a (does more next) h = rw append-assoc at h
 
@@ -91,18 +91,18 @@ of-printed : (t : Test) (p : Printed) → in-printed t p ≡ true → (s : State
 of-printed t (one r) h s f = of-row t r h s f
 of-printed t (two q r w) h s f = by-fact t (holds q f) r w (left (in-row t r) (in-row t w) h) (right (in-row t r) (in-row t w) h) s f
 
-no-row : (t : Test) (s : State) (f : Facts) → Holds (t s) [] (chosen f (cell (printed f (nowhere .row)) s))
-no-row t State.S111 f = tt
-no-row t State.S141 f = tt
-no-row t State.S212 f = tt
-no-row t State.S222 f = tt
-no-row t State.S242 f = tt
-no-row t State.S2103 f = tt
-no-row t State.S2104 f = tt
-no-row t State.S3105 f = tt
+pub no-row : (f : Facts) (s : State) → cell (printed f (nowhere .row)) s ≡ Illegal
+no-row f State.S111 = refl
+no-row f State.S141 = refl
+no-row f State.S212 = refl
+no-row f State.S222 = refl
+no-row f State.S242 = refl
+no-row f State.S2103 = refl
+no-row f State.S2104 = refl
+no-row f State.S3105 = refl
 
 of-rows : (t : Test) (hs : List Heading) → in-rows t hs ≡ true → (row : ℕ) (s : State) (f : Facts) → Holds (t s) [] (chosen f (cell (printed f (getD hs row nowhere .row)) s))
-of-rows t [] h row s f = no-row t s f
+of-rows t [] h row s f = rw (no-row f s) tt
 of-rows t (x ∷ hs) h zero s f = of-printed t (x .row) (left (in-printed t (x .row)) (in-rows t hs) h) s f
 of-rows t (x ∷ hs) h (suc row) s f = of-rows t hs (right (in-printed t (x .row)) (in-rows t hs) h) row s f
 
