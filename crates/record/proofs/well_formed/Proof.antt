@@ -68,47 +68,47 @@ off b p q = q ∙ p ∙ ap (λ v. v && b) (sym p)
 and1 : (j : tie.Joined1) → let r = j .before .before .before .before .args .r .now in j .if1 .if2 ≡ (j .before .marked .result && leb 1 (at r 2))
 and1 j =
     let r = j .before .before .before .before .args .r .now in
-    ⊎-elim (λ x. on (x .0 .taken) (x .2)) (λ y. off (leb 1 (at r 2)) (y .0 .left) (y .1)) (j .if1 .came)
+    ⊎-elim {C = j .if1 .if2 ≡ (j .before .marked .result && leb 1 (at r 2))} (λ x. on (x .0 .taken) (x .2)) (λ y. off (leb 1 (at r 2)) (y .0 .left) (y .1)) (j .if1 .came)
 
 and2 : (j : tie.Joined2) → let r = j .before .before .before .before .before .args .r .now in j .if2 .if3 ≡ (j .before .if1 .if2 && leb (at r 2) 8)
 and2 j =
     let r = j .before .before .before .before .before .args .r .now in
-    ⊎-elim (λ x. on (x .0 .taken) (x .2)) (λ y. off (leb (at r 2) 8) (y .0 .left) (y .1)) (j .if2 .came)
+    ⊎-elim {C = j .if2 .if3 ≡ (j .before .if1 .if2 && leb (at r 2) 8)} (λ x. on (x .0 .taken) (x .2)) (λ y. off (leb (at r 2) 8) (y .0 .left) (y .1)) (j .if2 .came)
 
 and3 : (j : tie.Joined3) → let r = j .before .before .before .before .before .before .args .r .now in j .if3 .if4 ≡ (j .before .if2 .if3 && leb (at r 3) 3)
 and3 j =
     let r = j .before .before .before .before .before .before .args .r .now in
-    ⊎-elim (λ x. on (x .0 .taken) (x .2)) (λ y. off (leb (at r 3) 3) (y .0 .left) (y .1)) (j .if3 .came)
+    ⊎-elim {C = j .if3 .if4 ≡ (j .before .if2 .if3 && leb (at r 3) 3)} (λ x. on (x .0 .taken) (x .2)) (λ y. off (leb (at r 3) 3) (y .0 .left) (y .1)) (j .if3 .came)
 
 and4 : (j : tie.Joined4) → let r = j .before .before .before .before .before .before .before .args .r .now in j .if4 .if5 ≡ (j .before .if3 .if4 && leb (at r 4) 2)
 and4 j =
     let r = j .before .before .before .before .before .before .before .args .r .now in
-    ⊎-elim (λ x. on (x .0 .taken) (x .2)) (λ y. off (leb (at r 4) 2) (y .0 .left) (y .1)) (j .if4 .came)
+    ⊎-elim {C = j .if4 .if5 ≡ (j .before .if3 .if4 && leb (at r 4) 2)} (λ x. on (x .0 .taken) (x .2)) (λ y. off (leb (at r 4) 2) (y .0 .left) (y .1)) (j .if4 .came)
 
 and5 : (j : tie.Joined5) → let r = j .before .before .before .before .before .before .before .before .args .r .now in j .if5 .if6 ≡ (j .before .if4 .if5 && leb (at r 5) 1)
 and5 j =
     let r = j .before .before .before .before .before .before .before .before .args .r .now in
-    ⊎-elim (λ x. on (x .0 .taken) (x .2)) (λ y. off (leb (at r 5) 1) (y .0 .left) (y .1)) (j .if5 .came)
+    ⊎-elim {C = j .if5 .if6 ≡ (j .before .if4 .if5 && leb (at r 5) 1)} (λ x. on (x .0 .taken) (x .2)) (λ y. off (leb (at r 5) 1) (y .0 .left) (y .1)) (j .if5 .came)
 
 and6 : (j : tie.Joined6) → let r = j .before .before .before .before .before .before .before .before .before .args .r .now in j .if6 .if7 ≡ (j .before .if5 .if6 && leb (at r 6) 7)
 and6 j =
     let r = j .before .before .before .before .before .before .before .before .before .args .r .now in
-    ⊎-elim (λ x. on (x .0 .taken) (x .2)) (λ y. off (leb (at r 6) 7) (y .0 .left) (y .1)) (j .if6 .came)
+    ⊎-elim {C = j .if6 .if7 ≡ (j .before .if5 .if6 && leb (at r 6) 7)} (λ x. on (x .0 .taken) (x .2)) (λ y. off (leb (at r 6) 7) (y .0 .left) (y .1)) (j .if6 .came)
 
 and7 : (j : tie.Joined7) → let r = j .before .before .before .before .before .before .before .before .before .before .args .r .now in j .if7 .if8 ≡ (j .before .if6 .if7 && leb (at r 7) 1)
 and7 j =
     let r = j .before .before .before .before .before .before .before .before .before .before .args .r .now in
-    ⊎-elim (λ x. on (x .0 .taken) (x .2)) (λ y. off (leb (at r 7) 1) (y .0 .left) (y .1)) (j .if7 .came)
+    ⊎-elim {C = j .if7 .if8 ≡ (j .before .if6 .if7 && leb (at r 7) 1)} (λ x. on (x .0 .taken) (x .2)) (λ y. off (leb (at r 7) 1) (y .0 .left) (y .1)) (j .if7 .came)
 
 and8 : (j : tie.Joined8) → let r = j .before .before .before .before .before .before .before .before .before .before .before .args .r .now in j .if8 .if9 ≡ (j .before .if7 .if8 && (eqb (at r 7) 1 || eqb (at r 8) 0 && eqb (at r 9) 0 && eqb (at r 10) 0))
 and8 j =
     let r = j .before .before .before .before .before .before .before .before .before .before .before .args .r .now in
-    ⊎-elim (λ x. on (x .0 .taken) (x .5)) (λ y. off (eqb (at r 7) 1 || eqb (at r 8) 0 && eqb (at r 9) 0 && eqb (at r 10) 0) (y .0 .left) (y .1)) (j .if8 .came)
+    ⊎-elim {C = j .if8 .if9 ≡ (j .before .if7 .if8 && (eqb (at r 7) 1 || eqb (at r 8) 0 && eqb (at r 9) 0 && eqb (at r 10) 0))} (λ x. on (x .0 .taken) (x .5)) (λ y. off (eqb (at r 7) 1 || eqb (at r 8) 0 && eqb (at r 9) 0 && eqb (at r 10) 0) (y .0 .left) (y .1)) (j .if8 .came)
 
 and9 : (j : tie.Joined9) → let r = j .before .before .before .before .before .before .before .before .before .before .before .before .args .r .now in j .if9 .if10 ≡ (j .before .if8 .if9 && eqb (at r 11) 0)
 and9 j =
     let r = j .before .before .before .before .before .before .before .before .before .before .before .before .args .r .now in
-    ⊎-elim (λ x. on (x .0 .taken) (x .2)) (λ y. off (eqb (at r 11) 0) (y .0 .left) (y .1)) (j .if9 .came)
+    ⊎-elim {C = j .if9 .if10 ≡ (j .before .if8 .if9 && eqb (at r 11) 0)} (λ x. on (x .0 .taken) (x .2)) (λ y. off (eqb (at r 11) 0) (y .0 .left) (y .1)) (j .if9 .came)
 
 -- the tests before the last
 most : (j : tie.Joined9) → (j .if9 .if10 && leb 1 (two (at (j .before .before .before .before .before .before .before .before .before .before .before .before .args .r .now) 14) (at (j .before .before .before .before .before .before .before .before .before .before .before .before .args .r .now) 15))) ≡ wellFormed (j .before .before .before .before .before .before .before .before .before .before .before .before .args .r .now)
