@@ -3,6 +3,7 @@ pub mod Signal
 pub mod Fresh
 pub mod Step
 pub mod Stored
+pub mod Lent
 pub mod Twelve
 pub mod Expiries
 pub mod Kept

@@ -18,6 +18,7 @@ ghost use Rattle.table6.specs.Summary.{over};
 ghost use Rattle.table6.specs.Stored.{flagOp, mpsOp, upsOp, stateOp, countOp, takesOp, changed};
 ghost use Rattle.link.specs.Effect.{with-state};
 ghost use Rattle.link.specs.Fresh.{freshLink};
+ghost use Rattle.link.specs.Lent.{leftBy, saidBy, replied};
 ghost use Rattle.link.specs.Step.{named, stepOf};
 ghost use Rattle.link.specs.Stored.{dataRowOf, t3RowOf, viewOf, factsOf, counted, summedUp, heard};
 
@@ -363,5 +364,33 @@ pub fn step(l: Link, e: Event) -> Answer
             };
             Answer::Legal(next, said)
         }
+    }
+}
+
+// What is answered of a record that is lent: that the event is illegal, or what is said.
+pub enum Reply {
+    Illegal,
+    Legal(Said),
+}
+
+// A record after an event, and what is answered.
+pub struct Turn {
+    pub link: Link,
+    pub reply: Reply,
+}
+
+// One event for one link, by value: an illegal event leaves the record as it was.
+pub fn turned(l: Link, e: Event) -> Turn
+    ensures { λ r. ⌜ (r .link ≡ leftBy l (stepOf l e)) × (replied (r .reply) ≡ saidBy (stepOf l e)) ⌝ }
+{
+    match step(l, e) {
+        Answer::Illegal => Turn {
+            link: l,
+            reply: Reply::Illegal,
+        },
+        Answer::Legal(link, said) => Turn {
+            link: link,
+            reply: Reply::Legal(said),
+        },
     }
 }
