@@ -394,3 +394,12 @@ pub fn turned(l: Link, e: Event) -> Turn
         },
     }
 }
+
+// One event for one link whose record is lent, and altered there.
+pub fn step_in(l: &mut Link, e: Event) -> Reply
+    ensures { λ r. ⌜ (now (l .exit) ≡ leftBy (now (l .entry)) (stepOf (now (l .entry)) e)) × (replied r ≡ saidBy (stepOf (now (l .entry)) e)) ⌝ }
+{
+    let t = turned(*l, e);
+    *l = t.link;
+    t.reply
+}
