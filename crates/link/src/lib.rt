@@ -403,3 +403,15 @@ pub fn step_in(l: &mut Link, e: Event) -> Reply
     *l = t.link;
     t.reply
 }
+
+// The same with plain parameters, so that no caller walks.
+pub fn stepped(l: Link, e: Event) -> Turn
+    ensures { λ r. ⌜ (r .link ≡ leftBy l (stepOf l e)) × (replied (r .reply) ≡ saidBy (stepOf l e)) ⌝ }
+{
+    let mut k = l;
+    let reply = step_in(&mut k, e);
+    Turn {
+        link: k,
+        reply: reply,
+    }
+}
