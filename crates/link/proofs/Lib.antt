@@ -1,5 +1,6 @@
 pub mod Expiries
 pub mod Kept
+pub mod Lent
 pub mod OneAnswer
 pub mod Performed
 pub mod Spoken
