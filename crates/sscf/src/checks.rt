@@ -1,8 +1,8 @@
 // Document 01's checks, in its order: the first that holds refuses the call.
 
-use link::Answer;
 use link::Event;
 use link::Link;
+use link::Reply;
 use link::Said;
 use record::RECORD;
 use record::Slot;
@@ -97,9 +97,12 @@ fn link_plan(t: &[u8], e: &[u8], k: u16, x: Event, room: usize) -> Plan
             if idle(l, e[4]) {
                 return Plan::Refused(Refusal::Timer);
             }
-            match link::step(l, x) {
-                Answer::Illegal => Plan::Refused(Refusal::Cell),
-                Answer::Legal(next, said) => {
+            let turn = link::stepped(l, x);
+            let next = turn.link;
+            let reply = turn.reply;
+            match reply {
+                Reply::Illegal => Plan::Refused(Refusal::Cell),
+                Reply::Legal(said) => {
                     if room < ROOM {
                         return Plan::Refused(Refusal::Room);
                     }

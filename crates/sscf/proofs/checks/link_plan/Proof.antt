@@ -8,7 +8,11 @@ use lib.ListN.{length}
 use borrow.Author.Tests.{le-leb, lt-leb, lt-ltb, le-ltb, eq-eqb}
 use borrow.Author.Needs.{needs}
 use Rattle.link.specs.Step as machine
-use Rattle.link.specs.Stored.{signalsOf, heard}
+use Rattle.link.specs.declared.Link.{Link}
+use Rattle.link.specs.declared.Event.{Event}
+use Rattle.link.specs.Stored.{signalsOf}
+use Rattle.link.specs.Lent.{leftBy, saidBy, replied}
+use Rattle.link.proofs.Lent.{was-illegal, was-legal}
 use Rattle.record.specs.declared.Slot.{Slot}
 use Rattle.record.specs.LinkRecord.{recordOctets, wellFormed, slotOf}
 use Rattle.record.specs.Frame.{linkAt, codeAt}
@@ -52,12 +56,24 @@ held c = told (c .before .before) _ (c .l .given .1)
 running : (c : tie.Else2) → idle (c .before .before .before .before .l .given .0 .0) (codeAt (c .before .before .before .before .before .before .before .before .before .before .args .e .now)) ≡ false
 running c = sym (c .before .idle .ensures) ∙ c .if2 .left
 
--- what the step told
-stepped : (c : tie.After-step) → machine.stepOf (c .before .before .before .before .before .l .given .0 .0) (eventOf (c .before .before .before .before .before .before .before .before .before .before .before .args .e .now)) ≡ heard (c .step .result)
-stepped c = ap (machine.stepOf (c .before .before .before .before .before .l .given .0 .0)) (sym (c .before .before .before .before .before .before .before .before .before .before .before .pre .2)) ∙ sym (c .step .ensures)
+-- what the step left and said, of the record and the event that the octets hold
+abbrev L : tie.After-stepped → Link
+L c = c .before .before .before .before .before .l .given .0 .0
 
-legal : (c : tie.After-next) → machine.stepOf (c .before .before .before .before .before .before .before .l .given .0 .0) (eventOf (c .before .before .before .before .before .before .before .before .before .before .before .before .before .args .e .now)) ≡ machine.Legal (c .next .given .0 .0) (signalsOf (c .next .given .0 .1 .0))
-legal c = stepped (c .before .before) ∙ ap heard (c .next .given .1)
+abbrev Out : tie.After-stepped → machine.Outcome
+Out c = machine.stepOf (L c) (eventOf (c .before .before .before .before .before .before .before .before .before .before .before .args .e .now))
+
+abbrev Turned : tie.After-stepped → machine.Outcome → Type 0
+Turned c o = (c .stepped .result .link ≡ leftBy (L c) o) × (replied (c .stepped .result .reply) ≡ saidBy o)
+
+turned : (c : tie.After-stepped) → Turned c (Out c)
+turned c = subst (λ (x : Event). Turned c (machine.stepOf (L c) x)) (c .before .before .before .before .before .before .before .before .before .before .before .pre .2) (c .stepped .ensures)
+
+illegal : (c : tie.After-enum-told2) → Out (c .before .before .before) ≡ machine.Illegal
+illegal c = was-illegal (Out (c .before .before .before)) (c .enum-told2 .given .1) (turned (c .before .before .before) .1)
+
+legal : (c : tie.After-reply) → Out (c .before .before .before) ≡ machine.Legal (c .before .before .before .stepped .result .link) (signalsOf (c .reply .given .0 .0))
+legal c = was-legal (L (c .before .before .before)) (Out (c .before .before .before)) (c .reply .given .1) (turned (c .before .before .before) .0) (turned (c .before .before .before) .1)
 
 returns : tie.Need-returns
 returns c = rw (← c .before .before .before .pre .1, le-leb _ _ (c .if1 .taken))
@@ -82,32 +98,32 @@ returns-2 c =
     let h = held (c .before .before .before .before) in
     rw (inside (c .before .before .before .before .before .before .before), h .0, h .1, sym (c .before .idle .ensures) ∙ c .if2 .taken)
 
-step-requires : tie.Need-step-requires
-step-requires c κs = search needs
+stepped-requires : tie.Need-stepped-requires
+stepped-requires c κs = search needs
 
 enum-told-2 : tie.Need-enum-told-2
 enum-told-2 c = search needs
 
-enum-known-next : tie.Need-enum-known-next
-enum-known-next c = search needs
+enum-known-reply : tie.Need-enum-known-reply
+enum-known-reply c = search needs
 
 returns-3 : tie.Need-returns-3
 returns-3 c =
-    let h = held (c .before .before .before .before .before .before .before .before .before) in
-    rw (inside (c .before .before .before .before .before .before .before .before .before .before .before .before), h .0, h .1, running (c .before .before .before .before .before), legal (c .before .before), lt-ltb _ _ (c .if3 .taken))
+    let h = held (c .before .before .before .before .before .before .before .before .before .before) in
+    rw (inside (c .before .before .before .before .before .before .before .before .before .before .before .before .before), h .0, h .1, running (c .before .before .before .before .before .before), legal (c .before .before), lt-ltb _ _ (c .if3 .taken))
 
 returns-4 : tie.Need-returns-4
 returns-4 c = rw (inside (c .before .before .before), ill (c .before .before) (c .enum-told .given .1))
 
 returns-5 : tie.Need-returns-5
 returns-5 c =
-    let h = held (c .before .before .before .before .before .before .before) in
-    rw (inside (c .before .before .before .before .before .before .before .before .before .before), h .0, h .1, running (c .before .before .before), stepped (c .before .before) ∙ ap heard (c .enum-told2 .given .1))
+    let h = held (c .before .before .before .before .before .before .before .before) in
+    rw (inside (c .before .before .before .before .before .before .before .before .before .before .before), h .0, h .1, running (c .before .before .before .before), illegal c)
 
 returns-6 : tie.Need-returns-6
 returns-6 c =
-    let h = held (c .before .before .before .before .before .before .before .before .before) in
-    (rw (inside (c .before .before .before .before .before .before .before .before .before .before .before .before), h .0, h .1, running (c .before .before .before .before .before), legal (c .before .before), le-ltb _ _ (c .if3 .left)), c .before .before .before .before .before .before .before .before .before .before .before .before .before .before .before .pre .1, rw (h .1) (legal (c .before .before)))
+    let h = held (c .before .before .before .before .before .before .before .before .before .before) in
+    (rw (inside (c .before .before .before .before .before .before .before .before .before .before .before .before .before), h .0, h .1, running (c .before .before .before .before .before .before), legal (c .before .before), le-ltb _ _ (c .if3 .left)), c .before .before .before .before .before .before .before .before .before .before .before .before .before .before .before .before .pre .1, rw (h .1) (legal (c .before .before)))
 
 pub link-plan-spec : {M : Type 1} → statement M
 link-plan-spec =
@@ -120,9 +136,9 @@ link-plan-spec =
     shared-slice-read-idle
     idle-requires
     returns-2
-    step-requires
+    stepped-requires
     enum-told-2
-    enum-known-next
+    enum-known-reply
     returns-3
     returns-4
     returns-5
