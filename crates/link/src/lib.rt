@@ -1,4 +1,4 @@
-// One link by value: an event and a link's record give the next record and the signals, as Table 6 says.
+// One link: an event and a link's record give the next record and the signals, as Table 6 says. By value, and on a record that is lent.
 pub mod signals;
 
 use table6::Facts;
