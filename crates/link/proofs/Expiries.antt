@@ -2,7 +2,7 @@
 use mathlib.Core.Path.{_≡_, refl, sym, ap, subst, _∙_}
 use mathlib.Core.Bool.{Bool, true, false}
 use mathlib.Core.List.{List, [], _∷_, _++_}
-use Prim.Native.Nat.{ℕ, zero, suc, _+_, _-_, _<_, _≤_}
+use Prim.Native.Nat.{ℕ, zero, suc, _+_, _-_, _≤_}
 use native.Mathlib.Omega.{arith}
 use native.Mathlib.Numerals.{add-one}
 use borrow.Author.Tests.{ne-eqb}
@@ -19,9 +19,9 @@ use Rattle.link.specs.declared.Signal.{Signal}
 use Rattle.link.specs.declared.Event.the-variants as event
 use Rattle.link.specs.Effect.{with-state, with-ins, with-lpo, with-c1, with-timer}
 use Rattle.link.specs.Signal.{none, signal, bare}
-use Rattle.link.specs.Step.{named, Outcome, Legal, stepOf}
+use Rattle.link.specs.Step.{named, Legal, stepOf}
 use Rattle.link.specs.Twelve.{unit}
-use Rattle.link.specs.Expiries.{joined, next-expiry, expiries, units, ToProve, Confirmed, Indicated, Proving, OneMore, ThousandAndOne}
+use Rattle.link.specs.Expiries.{joined, next-expiry, expiries, units, Confirmed, Indicated, Proving, OneMore, ThousandAndOne}
 
 -- a link in 2/10/3 with T3 running
 abbrev proving : Link → Link

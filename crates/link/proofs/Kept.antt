@@ -1,5 +1,5 @@
 -- What every step keeps: read off the summary of a cell, and off the tests of all cells for how much each says. Assumes nothing.
-use mathlib.Core.Path.{_≡_, refl, sym, ap, subst, _∙_}
+use mathlib.Core.Path.{_≡_, refl, subst}
 use mathlib.Core.Bool.{Bool, true, false, cond, true≢false}
 use mathlib.Core.List.{List, [], _∷_, _++_, map}
 use Prim.Native.Nat.{ℕ, _≤_}
@@ -28,7 +28,7 @@ use Rattle.link.specs.declared.Link.{Link}
 use Rattle.link.specs.declared.View.{View}
 use Rattle.link.specs.Effect.{taken}
 use Rattle.link.specs.Signal.{signalOf}
-use Rattle.link.specs.Step.{Meeting, stepOf}
+use Rattle.link.specs.Step.{Meeting}
 use Rattle.link.specs.Stored.{viewOf, meetingOf, factsOf, counted}
 use Rattle.link.specs.Kept.{NoneIsZero, messagesIn, messages, Keeps, Kept}
 use Rattle.link.proofs.Performed.{outcomeOf, as-met}

@@ -17,10 +17,9 @@ use Rattle.link.specs.declared.Link.{Link}
 use Rattle.link.specs.declared.Event.{Event}
 use Rattle.link.specs.declared.Event.the-variants as event
 use Rattle.link.specs.declared.View.{View}
-use Rattle.link.specs.declared.Signal.{Signal}
 use Rattle.link.specs.Effect.{with-state, effect, performed}
 use Rattle.link.specs.Signal.{signalOf}
-use Rattle.link.specs.Step.{Meeting, meets, t3Row, meeting, facts, Outcome, Illegal, Legal, outcome, at-meeting, stepOf}
+use Rattle.link.specs.Step.{Meeting, meets, meeting, facts, Outcome, Illegal, Legal, outcome, at-meeting, stepOf}
 use Rattle.link.specs.Stored.{viewOf, meetingOf, factsOf, summedUp}
 
 -- SUMMARIES

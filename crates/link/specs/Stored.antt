@@ -1,16 +1,14 @@
 -- What the code's views, changes and answers stand for. Nothing here has to be believed: the promises of the public functions tie it to specs/Step.antt.
 use Prim.Native.Nat.{ℕ, _-_}
-use mathlib.Core.Path.{_≡_}
 use mathlib.Core.Bool.{cond}
 use mathlib.Core.List.{List, [], _∷_, map}
 use lib.Dec.{eqb, ltb}
-use lib.ListN.{getD, take}
+use lib.ListN.{getD}
 use Rattle.unit.specs.declared.Status.{Status}
 use Rattle.unit.specs.declared.Arrived.{Arrived}
 use Rattle.unit.specs.Unit.{code}
 use Rattle.unit.specs.Proving.{asked, table7, table8}
 use Rattle.table6.specs.declared.Facts.{Facts}
-use Rattle.table6.specs.Cell.{Act}
 use Rattle.table6.specs.Summary.{over, Count, same, decided, less, Summary}
 use Rattle.table6.specs.Rows.{heading}
 use Rattle.table6.specs.Stored.{said}

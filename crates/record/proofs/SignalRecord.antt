@@ -13,7 +13,7 @@ use Rattle.link.specs.declared.Signal.{Signal}
 use Rattle.link.specs.Kept.{messagesIn, messages}
 use Rattle.record.specs.Octets.{over, putAt}
 use Rattle.record.specs.Frame.{SG, headOf, written, lengthAt}
-use Rattle.record.specs.SignalRecord.{bodyOf, signalOctets, joined, Put, SignalReread, SignalRewritten, Apart, SignalsApart}
+use Rattle.record.specs.SignalRecord.{bodyOf, signalOctets, joined, Put, SignalReread, SignalRewritten, SignalsApart}
 use Rattle.record.proofs.Over.{lent, behind}
 use Rattle.record.proofs.Frame.{frame-reread, frame-rewritten, two-back, written-length}
 

@@ -3,7 +3,7 @@ use mathlib.Core.Path.{_≡_, refl, sym, ap, _∙_}
 use mathlib.Core.List.{List, _++_, append-assoc, append-nil}
 use Prim.Native.Nat.{ℕ, zero, suc, _+_, _*_, _/_, _%_, _≤_}
 use native.Mathlib.Omega.{arith}
-use lib.ListN.{length, drop, length-append, drop-of-length-le}
+use lib.ListN.{length, length-append, drop-of-length-le}
 use Rattle.record.specs.Octets.{over, putAt}
 use Rattle.record.proofs.Over.{behind}
 use Rattle.sscf.specs.Fresh.{copies}

@@ -1,6 +1,6 @@
 -- What holds of the two calls on all octets. Each is shown for a refusal and for an acceptance. Assumes nothing.
 use mathlib.Core.Path.{_≡_, refl, sym, ap, _∙_}
-use mathlib.Core.Bool.{Bool, true, false, not}
+use mathlib.Core.Bool.{Bool, true, false}
 use mathlib.Core.Logic.{_⊎_, inl, inr}
 use mathlib.Core.List.{List}
 use Prim.Native.Nat.{ℕ, _*_, _≤_, _<_}
@@ -22,7 +22,7 @@ use Rattle.sscf.specs.Checks.{number, Verdict, passed, refused, first}
 use Rattle.sscf.specs.Step.{recordAt, eventOf, linkFor, checks, Outcome, answered, answering, refusedBy, performed, outcome, stepCall}
 use Rattle.sscf.specs.Untouched.{RefusalsUntouched, OthersUntouched, RestUntouched, AtMost4192, SameLengths, Refused4191, Taken4192, Written, AcceptedWritten, StaysWellFormed}
 use Rattle.sscf.proofs.Places.{inside, clear, none}
-use Rattle.sscf.proofs.Taken.{Taken, taken, Makes, made-after, room-for, step-accepted}
+use Rattle.sscf.proofs.Taken.{taken, Makes, made-after, room-for, step-accepted}
 
 -- what an accepted step comes to
 abbrev done : List ℕ → List ℕ → List ℕ → Link → List Signal → Outcome

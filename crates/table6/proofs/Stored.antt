@@ -2,18 +2,16 @@
 use mathlib.Core.Path.{_≡_, refl, sym, ap, _∙_}
 use mathlib.Core.Bool.{Bool, true, false, cond}
 use mathlib.Core.List.{List, [], _∷_, _++_, append-assoc}
-use mathlib.Core.Logic.{⊎-elim}
-use Prim.Native.Nat.{ℕ, zero, suc, _+_, _*_, _<_, _≤_}
-use native.Mathlib.Omega.{arith}
+use Prim.Native.Nat.{ℕ, _+_, _*_, _<_, _≤_}
 use lib.Dec.{eqb, ltb, leb}
-use lib.ListN.{getD, length}
+use lib.ListN.{getD}
 use borrow.Author.Tests.{eqb-true, ltb-true, ltb-false}
 use Rattle.table6.specs.declared.State.{State}
 use Rattle.table6.specs.declared.Facts.{Facts}
 use Rattle.table6.specs.Cell.{Act, Cond, LPO=0, LPO=0&INS=0, LPO=0&INS=1, UU=EM-or-NM, Source=User, BSNT-available, MU>4, holds, Cell, Illegal, to, _⨟_, IF_THEN_ELSE_, Row, cell, Choice, illegal, does, after, chosen}
 use Rattle.table6.specs.Summary.{Summed, refused, summed, sum, over}
 use Rattle.table6.specs.Table6.{AAL-MESSAGE-FOR-TRANSMISSION-request, AAL-EMERGENCY-request, AAL-EMERGENCY-CEASES-request, AAL-STOP-request, AAL-START-request, AAL-RETRIEVE-BSNT-request, AAL-RETRIEVAL-REQUEST-AND-FSNC-request, AAL-FLUSH-BUFFERS-request, AAL-CONTINUE-request, AA-ESTABLISH-indication-with-EM-NM, AA-ESTABLISH-indication-with-others, AA-ESTABLISH-confirm-with-EM-NM, AA-ESTABLISH-confirm-with-others, AA-RELEASE-indication-from-User, AA-RELEASE-indication-from-SSCOP, AA-RELEASE-confirm, AA-DATA-indication-with-INS, AA-DATA-indication-with-NM, AA-DATA-indication-with-other, AA-DATA-indication-with-MU>4, AA-RESYNC-indication, AA-RECOVER-indication, AA-UNITDATA-indication, AA-RETRIEVE-indication, AA-RETRIEVE-COMPLETE-indication, MAAL-PROVING-UNSUCCESSFUL-response, MAAL-RELEASE-request, MAAL-LOCAL-PROCESSOR-OUTAGE-request, MAAL-LOCAL-PROCESSOR-RECOVERED-request, MAAL-FORCE-PROVING-request, MAAL-FORCE-EMERGENCY-request, MAAL-CLEAR-FORCE-MODES-request, Local-Congestion, Local-Congestion-Ceased, T1-expires, T2-expires, T3-expires-and-C1>0, T3-expires-and-C1=0}
-use Rattle.table6.specs.Rows.{Printed, one, two, printed, Heading, rows, nowhere, heading}
+use Rattle.table6.specs.Rows.{Printed, one, two, printed, rows, nowhere, heading}
 use Rattle.table6.specs.Stored.{place, codes, codeAt, Ask, gives, asks, follow, questions, among, answer, changeAt, saysAt, changed, said, stateOp, from, meets, met}
 use Rattle.table6.proofs.Lists.{alike, past}
 

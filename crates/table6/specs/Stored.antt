@@ -1,7 +1,7 @@
 -- What the numbers that the code stores stand for. Nothing here has to be believed: the code is proved to hold these numbers, and one computed test
 -- shows that they decode to Table 6 (proofs/Stored.antt).
 use Prim.Native.Nat.{ℕ, zero, suc, _+_, _*_, _^_, _/_, _%_}
-use mathlib.Core.Bool.{Bool, true, false, cond}
+use mathlib.Core.Bool.{Bool, cond}
 use mathlib.Core.List.{List, [], _∷_, map}
 use lib.Dec.{eqb, ltb}
 use lib.ListN.{getD, length}

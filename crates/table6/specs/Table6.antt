@@ -2,7 +2,7 @@
 -- The columns of the table's second half stand beside those of its first. The readings of damaged places are in docs/DECISIONS.md.
 use Rattle.table6.specs.Words.{–, OOS, PO, INS, NM, ANS, MI, PE, PNS, LR, RR, SR, ALN, CC, CD, SREC, UDR, PDUT, SSCOP-UU, Parameter-Data}
 use Rattle.table6.specs.Words.{1/1/1, 1/4/1, 2/1/2, 2/2/2, 2/4/2, 3/10/5, 2/10/3, 2/10/4}
-use Rattle.table6.specs.Cell.{Row, Cell, Illegal, to, _⨟_, IF_THEN_ELSE_, Act, Timer, T1, T2, T3, Cond, LPO=0, LPO=0&INS=0, LPO=0&INS=1, BSNT-available, MU>4}
+use Rattle.table6.specs.Cell.{Row, Illegal, to, _⨟_, IF_THEN_ELSE_, T1, T2, T3, LPO=0, LPO=0&INS=0, LPO=0&INS=1, BSNT-available, MU>4}
 use Rattle.table6.specs.Cell.{AAL-RECEIVED-MESSAGE-indication, AAL-LINK-CONGESTED-indication, AAL-LINK-CONGESTION-CEASED-indication, AAL-IN-SERVICE-indication, AAL-OUT-OF-SERVICE-indication, AAL-RETRIEVED-MESSAGES-indication, AAL-RETRIEVAL-COMPLETE-indication, AAL-BSNT-confirm, AAL-BSNT-NOT-RETRIEVABLE-confirm}
 use Rattle.table6.specs.Cell.{AA-ESTABLISH-request, AA-ESTABLISH-response, AA-RELEASE-request, AA-DATA-request, AA-RECOVER-response, AA-RETRIEVE-request}
 use Rattle.table6.specs.Cell.{MAAL-PROVING-indication, MAAL-STOP-PROVING-indication, MAAL-REPORT-indication}

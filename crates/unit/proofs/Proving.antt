@@ -1,6 +1,6 @@
 -- Table 7's laws: forced modes come first, and how large a code is, for the table's index. Assumes nothing.
 use mathlib.Core.Path.{refl}
-use Prim.Native.Nat.{ℕ, _<_}
+use Prim.Native.Nat.{_<_}
 use native.Mathlib.Omega.{arith}
 use lib.Dec.{lit<}
 use Rattle.unit.specs.declared.Mps.{Mps}

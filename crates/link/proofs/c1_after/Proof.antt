@@ -1,7 +1,7 @@
 -- `link::c1_after` meets its contract. Assumes nothing.
 use borrow.Author.Needs.{needs}
 use mathlib.Core.Path.{refl, sym, ap, _∙_}
-use mathlib.Core.List.{List, [], _∷_}
+use mathlib.Core.List.{[], _∷_}
 use Prim.Native.Nat.{ℕ}
 use Rattle.table6.specs.Summary.{Count, same, decided, less}
 use Rattle.table6.specs.Stored.{countOp}

@@ -1,7 +1,7 @@
 -- `link::state_after` meets its contract. Assumes nothing.
 use borrow.Author.Needs.{needs}
-use mathlib.Core.Path.{refl, sym, ap}
-use mathlib.Core.List.{List, [], _∷_}
+use mathlib.Core.Path.{refl, ap}
+use mathlib.Core.List.{[], _∷_}
 use Rattle.table6.proofs.Lists.{beyond}
 use Rattle.table6.specs.Summary.{Op, keep, put, over}
 use Rattle.table6.specs.declared.State.{State}

@@ -2,9 +2,7 @@
 use borrow.Author.Needs.{needs}
 use mathlib.Core.Path.{_≡_, sym, ap, _∙_}
 use Prim.Native.Nat.{ℕ}
-use Rattle.link.specs.declared.Num.{Num}
 use Rattle.link.specs.declared.Event.{Event}
-use Rattle.link.specs.declared.View.{View}
 use Rattle.link.specs.Signal.{none}
 use Rattle.link.specs.Stored.{viewOf}
 use Rattle.link.proofs.view_of.Statement.{statement}

@@ -1,6 +1,5 @@
 -- `print` meets its contract. Assumes nothing.
 use mathlib.Core.Path.{sym}
-use lib.ListN.{length}
 use lib.Seq.{length-take-le}
 use borrow.Author.Needs.{needs}
 use Rattle.trace.proofs.print.Statement.{statement}

@@ -1,9 +1,9 @@
 -- `text::add_number` meets its contract. Assumes nothing.
-use mathlib.Core.Path.{_≡_, ap, _∙_}
+use mathlib.Core.Path.{_≡_, _∙_}
 use mathlib.Core.List.{[], _∷_}
 use Prim.Native.Nat.{_-_}
 use native.Mathlib.Omega.{arith}
-use lib.ListN.{length, take, drop, length-drop, length-append}
+use lib.ListN.{take, drop, length-drop, length-append}
 use lib.Seq.{take-all}
 use borrow.Author.Needs.{needs}
 use Rattle.lines.specs.Text.{decimal, Added}

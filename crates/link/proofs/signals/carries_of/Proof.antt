@@ -1,7 +1,6 @@
 -- `link::signals::carries_of` meets its contract. Assumes nothing.
-use borrow.Author.Needs.{needs}
 use mathlib.Core.Path.{refl, sym, ap}
-use mathlib.Core.List.{List, [], _∷_}
+use mathlib.Core.List.{[], _∷_}
 use Rattle.table6.proofs.Lists.{beyond}
 use Rattle.unit.specs.declared.Status.{Status}
 use Rattle.link.specs.declared.Carries.{Carries}

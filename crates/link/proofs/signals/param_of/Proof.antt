@@ -1,7 +1,7 @@
 -- `link::signals::param_of` meets its contract. Assumes nothing.
 use borrow.Author.Needs.{needs}
 use mathlib.Core.Path.{refl, sym, ap, _∙_}
-use mathlib.Core.List.{List, [], _∷_}
+use mathlib.Core.List.{[], _∷_}
 use Prim.Native.Nat.{ℕ}
 use Rattle.table6.proofs.Lists.{beyond}
 use Rattle.unit.specs.Unit.{code}

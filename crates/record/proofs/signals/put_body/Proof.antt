@@ -1,6 +1,5 @@
 -- `signals::put_body` meets its contract. Assumes nothing.
 
-use lib.ListN.{length}
 use borrow.Author.Needs.{needs}
 use Rattle.record.proofs.Over.{put-nothing}
 use Rattle.record.proofs.signals.put_body.Statement.{statement}
