@@ -2,11 +2,11 @@
 use Prim.Native.Nat.{ℕ, zero, suc, _+_, _/_, _%_, _≤_, _<_}
 use native.Mathlib.Omega.{arith}
 use mathlib.Core.Path.{_≡_, refl, sym, ap, _∙_}
-use mathlib.Core.Bool.{true, _&&_}
+use mathlib.Core.Bool.{Bool, true, false, _&&_}
 use mathlib.Core.List.{List, [], _∷_}
-use lib.Dec.{eqb, leb}
+use lib.Dec.{eqb, leb, ltb}
 use lib.ListN.{length, drop, length-drop}
-use borrow.Author.Tests.{leb-true, eqb-true, le-leb, eq-eqb}
+use borrow.Author.Tests.{leb-true, leb-false, eqb-true, le-leb, lt-leb, lt-ltb, le-ltb, eq-eqb}
 use Rattle.table6.proofs.Every.{left, right}
 use Rattle.link.specs.declared.Num.{Num}
 use Rattle.record.specs.Octets.{Octets, at, two}
@@ -86,6 +86,20 @@ frame-rewritten mark r o f =
     let e10 = ap (λ (y : ℕ). y / 256) m ∙ high-same (at r 10) (at r 11) (octet-at r o 11) in
     let e11 = ap (λ (y : ℕ). y % 256) m ∙ low-same (at r 10) (at r 11) (octet-at r o 11) in
     (λ i. e0 i ∷ e1 i ∷ e2 i ∷ e3 i ∷ at r 4 ∷ at r 5 ∷ at r 6 ∷ at r 7 ∷ at r 8 ∷ e9 i ∷ e10 i ∷ e11 i ∷ messageOf r) ∙ heads r (s .twelve)
+
+-- THE LENGTH OF A SOUND FRAME, which is that of its message and twelve
+
+pub at-most : (a b n : ℕ) → 12 + a ≡ n → leb n (12 + b) ≡ leb a b
+at-most a b n h = by (leb a b) refl where
+  by : (x : Bool) → leb a b ≡ x → leb n (12 + b) ≡ x
+  by true e = le-leb n (12 + b) (omega (arith, leb-true a b e))
+  by false e = lt-leb n (12 + b) (omega (arith, leb-false a b e))
+
+pub some-message : (a n : ℕ) → 12 + a ≡ n → ltb 12 n ≡ leb 1 a
+some-message a n h = by (leb 1 a) refl where
+  by : (x : Bool) → leb 1 a ≡ x → ltb 12 n ≡ x
+  by true e = lt-ltb 12 n (omega (arith, leb-true 1 a e))
+  by false e = le-ltb 12 n (omega (arith, leb-false 1 a e))
 
 -- READING WHAT WAS WRITTEN
 

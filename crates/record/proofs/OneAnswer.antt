@@ -12,6 +12,10 @@ use Rattle.record.proofs.read_link.Kinds as read-link-kinds
 use Rattle.record.proofs.read_link.Reads as read-link
 use Rattle.record.proofs.events.message.Kinds as message-kinds
 use Rattle.record.proofs.events.message.Reads as message
+use Rattle.record.proofs.events.event.Kinds as event-kinds
+use Rattle.record.proofs.events.event.Reads as event
+use Rattle.record.proofs.events.link.Kinds as link-kinds
+use Rattle.record.proofs.events.link.Reads as link
 use Rattle.record.proofs.events.read_event.Kinds as read-event-kinds
 use Rattle.record.proofs.events.read_event.Reads as read-event
 use Rattle.record.proofs.writing.put.Kinds as put-kinds
@@ -33,6 +37,12 @@ read-link-one κs arguments x y e f = equal
 -- of a part of the caller's octets, what it holds
 pub message-one : OneReading message-kinds.ps message-kinds.r (List ℕ) (λ κs arguments x e. now x) message.Post
 message-one κs arguments x y e f = equal
+
+pub event-one : OneAnswer event-kinds.ps event-kinds.r event.Post
+event-one κs arguments x y e f = equal
+
+pub link-one : OneAnswer link-kinds.ps link-kinds.r link.Post
+link-one κs arguments x y e f = equal
 
 pub read-event-one : OneAnswer read-event-kinds.ps read-event-kinds.r read-event.Post
 read-event-one κs arguments x y e f = equal

@@ -11,7 +11,6 @@ use Rattle.unit.specs.Unit.{decoded, arrived}
 use Rattle.link.specs.declared.Num.{Num}
 use Rattle.link.specs.declared.Event.{Event}
 use Rattle.link.specs.declared.Event.the-variants as event
-use Rattle.record.specs.declared.events.Coded.{Coded}
 use Rattle.record.specs.declared.events.Reading.{Reading}
 use Rattle.link.specs.Signal.{num, none}
 use Rattle.record.specs.Octets.{Octets}
@@ -63,12 +62,28 @@ codes p n len a =
     ∷ _says_ 50 event.T3
     ∷ []
 
+-- What a code says: an event, or nothing that document 01 has.
+pub data Coded : Type 0 where
+  Unknown : Coded
+  Of : Event → Coded
+
 abbrev pub among : ℕ → List Code → Coded
 among c [] = Coded.Unknown
 among c (x ∷ others) = cond (eqb c (x .code)) (Coded.Of (x .says)) (among c others)
 
 unfoldable pub codedAt : ℕ → ℕ → Num → ℕ → Arrived → Coded
 codedAt c p n len a = among c (codes p n len a)
+
+abbrev pub codedIn : List ℕ → Coded
+codedIn e = codedAt (codeAt e) (paramAt e) (numberAt e) (lengthAt e) (arrived (messageOf e))
+
+-- what the code says; where it says nothing, check 3 refuses
+abbrev pub said : Coded → Event
+said Coded.Unknown = event.Continue
+said (Coded.Of x) = x
+
+abbrev pub eventOf : List ℕ → Event
+eventOf e = said (codedIn e)
 
 -- FIELDS
 
@@ -88,11 +103,14 @@ hasNumber c = eqb c 7 || eqb c 18 || eqb c 20
 abbrev pub hasParameter : ℕ → Bool
 hasParameter c = eqb c 16 || eqb c 17 || eqb c 18 || eqb c 39
 
+abbrev pub isZero : Num → Bool
+isZero n = eqb (n .a) 0 && eqb (n .b) 0 && eqb (n .c) 0
+
 -- "A field set that the code doesn't carry (a length above 0 counts as one), a parameter or source out of range, or a user message under 5 octets."
 unfoldable pub misfit : ℕ → ℕ → Num → ℕ → Bool
 misfit c p n len =
     (not (hasMessage c) && leb 1 len)
-    || (not (hasNumber c) && not (eqb (n .a) 0 && eqb (n .b) 0 && eqb (n .c) 0))
+    || (not (hasNumber c) && not (isZero n))
     || (not (hasParameter c) && leb 1 p)
     || ((eqb c 16 || eqb c 17 || eqb c 18) && not (eqb p 0 || isStatus p))
     || (eqb c 39 && leb 4 p)
@@ -101,16 +119,12 @@ misfit c p n len =
 
 -- WHAT OCTETS ARE AS AN EVENT RECORD: checks 2, 3 and 4 in their order.
 
-abbrev pub fitting : Coded → Bool → ℕ → Reading
-fitting Coded.Unknown m l = Reading.UnknownCode
-fitting (Coded.Of e) m l = cond m Reading.Misfit (Reading.Holds l e)
+abbrev pub fitting : Coded → Bool → Reading
+fitting Coded.Unknown m = Reading.UnknownCode
+fitting (Coded.Of x) m = cond m Reading.Misfit Reading.Fits
 
 unfoldable pub fieldsOf : List ℕ → Reading
-fieldsOf e =
-    fitting
-    (codedAt (codeAt e) (paramAt e) (numberAt e) (lengthAt e) (arrived (messageOf e)))
-    (misfit (codeAt e) (paramAt e) (numberAt e) (lengthAt e))
-    (linkAt e)
+fieldsOf e = fitting (codedIn e) (misfit (codeAt e) (paramAt e) (numberAt e) (lengthAt e))
 
 unfoldable pub readingOf : List ℕ → Reading
 readingOf e = cond (framed e) (fieldsOf e) Reading.BadFrame
@@ -121,11 +135,17 @@ abbrev pub Each : (Code → Type 0) → List Code → Type 0
 Each P [] = Unit {0}
 Each P (x ∷ others) = P x × Each P others
 
+-- Octets that hold an event for a link.
+pub record Holds (e : List ℕ) (k : ℕ) (x : Event) : Type 0 where
+  pub fits : readingOf e ≡ Reading.Fits
+  pub link : linkAt e ≡ k
+  pub event : eventOf e ≡ x
+
 -- Reading what was written: each code, with whatever fits it, is read as the list says.
 abbrev pub Reread : Type 0
 Reread =
     (link p : ℕ) (n : Num) (m : List ℕ) → length m ≤ messageOctets →
-    Each (λ x. misfit (x .code) p n (length m) ≡ false → readingOf (written EV link (x .code) p n m) ≡ Reading.Holds link (x .says)) (codes p n (length m) (arrived m))
+    Each (λ x. misfit (x .code) p n (length m) ≡ false → Holds (written EV link (x .code) p n m) link (x .says)) (codes p n (length m) (arrived m))
 
 -- What an event carries.
 pub record Carried : Type 0 where
@@ -174,4 +194,4 @@ eventOctets link e m = written EV link (carried e .code) (carried e .param) (car
 
 -- Writing what was read gives the same octets: nothing in a record that is taken goes unread.
 abbrev pub Rewritten : Type 0
-Rewritten = (e : List ℕ) (link : ℕ) (x : Event) → Octets e → readingOf e ≡ Reading.Holds link x → eventOctets link x (messageOf e) ≡ e
+Rewritten = (e : List ℕ) (link : ℕ) (x : Event) → Octets e → Holds e link x → eventOctets link x (messageOf e) ≡ e

@@ -4,15 +4,15 @@ use super::marked;
 use super::wide;
 use link::Event;
 use link::Num;
-use unit::Arrived;
 use unit::Field;
 ghost use mathlib.Core.Path.{_≡_};
-ghost use mathlib.Core.Bool.{not, _||_};
-ghost use Prim.Native.Nat.{_≤_};
-ghost use lib.Dec.{eqb};
+ghost use mathlib.Core.Bool.{cond, not, _||_};
+ghost use Prim.Native.Nat.{_+_, _≤_};
+ghost use lib.Dec.{eqb, leb};
 ghost use lib.ListN.{length};
-ghost use Rattle.record.specs.Frame.{headOctets, messageOf};
-ghost use Rattle.record.specs.EventRecord.{framed, codedAt, isStatus, misfit, fieldsOf, readingOf};
+ghost use Rattle.record.specs.declared.events.Reading.{Reading};
+ghost use Rattle.record.specs.Frame.{headOctets, linkAt, paramAt, numberAt, lengthAt, messageOf};
+ghost use Rattle.record.specs.EventRecord.{framed, eventOf, isStatus, isZero, fieldsOf, readingOf};
 
 // The octets of a record before its message, and the most of a message.
 pub const HEAD: usize = 12;
@@ -41,52 +41,69 @@ pub fn message(e: &[u8]) -> &[u8]
     &e[HEAD..]
 }
 
-// What a code says: an event with what it carries, or nothing that document 01 has.
-pub enum Coded {
-    Unknown,
-    Of(Event),
+fn number(e: &[u8]) -> Num
+    requires { ⌜ headOctets ≤ length (now e) ⌝ }
+    ensures { λ r. ⌜ r ≡ numberAt (now (e .entry)) ⌝ }
+{
+    Num {
+        a: e[6],
+        b: e[7],
+        c: e[8],
+    }
 }
 
-fn coded_as(code: u8, param: u8, num: Num, len: u16, arrived: Arrived) -> Coded
-    ensures { λ r. ⌜ r ≡ codedAt code param num len arrived ⌝ }
+// The event that a record with a known code holds. Each arm reads what it carries: what is read before the match is held through all of the step.
+pub fn event(e: &[u8]) -> Event
+    requires { ⌜ headOctets ≤ length (now e) ⌝ }
+    ensures { λ r. ⌜ r ≡ eventOf (now (e .entry)) ⌝ }
 {
-    match code {
-        1 => Coded::Of(Event::Message),
-        2 => Coded::Of(Event::Emergency),
-        3 => Coded::Of(Event::EmergencyCeases),
-        4 => Coded::Of(Event::Stop),
-        5 => Coded::Of(Event::Start),
-        6 => Coded::Of(Event::RetrieveBsnt),
-        7 => Coded::Of(Event::Retrieval(num)),
-        8 => Coded::Of(Event::FlushBuffers),
-        9 => Coded::Of(Event::Continue),
-        16 => Coded::Of(Event::EstablishIndication(param)),
-        17 => Coded::Of(Event::EstablishConfirm(param)),
-        18 => Coded::Of(Event::ReleaseIndication {
-            field: param,
-            source: num.c,
-        }),
-        19 => Coded::Of(Event::ReleaseConfirm),
-        20 => Coded::Of(Event::Data(arrived, num)),
-        21 => Coded::Of(Event::Resync),
-        22 => Coded::Of(Event::Recover),
-        23 => Coded::Of(Event::UnitData),
-        24 => Coded::Of(Event::Retrieve { len: len }),
-        25 => Coded::Of(Event::RetrieveComplete),
-        32 => Coded::Of(Event::ProvingUnsuccessful),
-        33 => Coded::Of(Event::Release),
-        34 => Coded::Of(Event::Outage),
-        35 => Coded::Of(Event::Recovered),
-        36 => Coded::Of(Event::ForceProving),
-        37 => Coded::Of(Event::ForceEmergency),
-        38 => Coded::Of(Event::ClearForceModes),
-        39 => Coded::Of(Event::Congestion(param)),
-        40 => Coded::Of(Event::CongestionCeased),
-        48 => Coded::Of(Event::T1),
-        49 => Coded::Of(Event::T2),
-        50 => Coded::Of(Event::T3),
-        _ => Coded::Unknown,
+    match e[4] {
+        1 => Event::Message,
+        2 => Event::Emergency,
+        3 => Event::EmergencyCeases,
+        4 => Event::Stop,
+        5 => Event::Start,
+        6 => Event::RetrieveBsnt,
+        7 => Event::Retrieval(number(e)),
+        8 => Event::FlushBuffers,
+        9 => Event::Continue,
+        16 => Event::EstablishIndication(e[5]),
+        17 => Event::EstablishConfirm(e[5]),
+        18 => Event::ReleaseIndication {
+            field: e[5],
+            source: e[8],
+        },
+        19 => Event::ReleaseConfirm,
+        20 => Event::Data(unit::read(message(e)), number(e)),
+        21 => Event::Resync,
+        22 => Event::Recover,
+        23 => Event::UnitData,
+        24 => Event::Retrieve {
+            len: wide(e[10], e[11]),
+        },
+        25 => Event::RetrieveComplete,
+        32 => Event::ProvingUnsuccessful,
+        33 => Event::Release,
+        34 => Event::Outage,
+        35 => Event::Recovered,
+        36 => Event::ForceProving,
+        37 => Event::ForceEmergency,
+        38 => Event::ClearForceModes,
+        39 => Event::Congestion(e[5]),
+        40 => Event::CongestionCeased,
+        48 => Event::T1,
+        49 => Event::T2,
+        50 => Event::T3,
+        _ => Event::Continue,
     }
+}
+
+// The number of the link that a record names.
+pub fn link(e: &[u8]) -> u16
+    requires { ⌜ headOctets ≤ length (now e) ⌝ }
+    ensures { λ r. ⌜ r ≡ linkAt (now (e .entry)) ⌝ }
+{
+    wide(e[2], e[3])
 }
 
 fn is_status(field: u8) -> bool
@@ -105,61 +122,89 @@ fn bad_field(field: u8) -> bool
     if field == 0 { false } else { !is_status(field) }
 }
 
-// A field that the code doesn't carry, or one out of range, or a user's message that would be taken for a unit.
-fn misfits(code: u8, param: u8, num: Num, len: u16) -> bool
-    ensures { λ r. ⌜ r ≡ misfit code param num len ⌝ }
-{
-    let zero = (num.a == 0) & (num.b == 0) & (num.c == 0);
-    match code {
-        1 => !zero | (1 <= param) | (len <= 4),
-        7 => (1 <= len) | (1 <= param),
-        16 => (1 <= len) | !zero | bad_field(param),
-        17 => (1 <= len) | !zero | bad_field(param),
-        18 => {
-            let small = (num.a == 0) & (num.b == 0) & (num.c <= 1);
-            (1 <= len) | bad_field(param) | !small
-        }
-        20 => 1 <= param,
-        23 => !zero | (1 <= param),
-        24 => !zero | (1 <= param),
-        39 => (1 <= len) | !zero | (4 <= param),
-        _ => (1 <= len) | !zero | (1 <= param),
-    }
-}
-
-// What octets are as an event record: the event with its link, or the first of checks 2, 3 and 4 that refuses them.
+// What octets are as an event record: one that fits its code, or the first of checks 2, 3 and 4 that refuses them.
 pub enum Reading {
     BadFrame,
     UnknownCode,
     Misfit,
-    Holds { link: u16, event: Event },
+    Fits,
 }
 
-// Checks 3 and 4.
-fn fields(e: &[u8]) -> Reading
+fn fits(misfit: bool) -> Reading
+    ensures { λ r. ⌜ r ≡ cond misfit Reading.Misfit Reading.Fits ⌝ }
+{
+    if misfit {
+        Reading::Misfit
+    } else {
+        Reading::Fits
+    }
+}
+
+// A message, where the frame is sound.
+fn lengthy(e: &[u8]) -> bool
+    requires { ⌜ headOctets + lengthAt (now e) ≡ length (now e) ⌝ }
+    ensures { λ r. ⌜ r ≡ leb 1 (lengthAt (now (e .entry))) ⌝ }
+{
+    HEAD < e.len()
+}
+
+// A number that is not 0.
+fn numbered(e: &[u8]) -> bool
     requires { ⌜ headOctets ≤ length (now e) ⌝ }
+    ensures { λ r. ⌜ r ≡ not (isZero (numberAt (now (e .entry)))) ⌝ }
+{
+    !((e[6] == 0) & (e[7] == 0) & (e[8] == 0))
+}
+
+// The fields of a code that carries none.
+fn bare(e: &[u8]) -> Reading
+    requires { ⌜ (headOctets ≤ length (now e)) × (headOctets + lengthAt (now e) ≡ length (now e)) ⌝ }
+    ensures { λ r. ⌜ r ≡ cond (leb 1 (lengthAt (now (e .entry))) || not (isZero (numberAt (now (e .entry)))) || leb 1 (paramAt (now (e .entry)))) Reading.Misfit Reading.Fits ⌝ }
+{
+    fits(lengthy(e) | numbered(e) | (1 <= e[5]))
+}
+
+// Checks 3 and 4 of a sound frame: the code, and that no field is set that it doesn't carry, none out of range, and no user's message that would be taken for a unit.
+fn fields(e: &[u8]) -> Reading
+    requires { ⌜ (headOctets ≤ length (now e)) × (headOctets + lengthAt (now e) ≡ length (now e)) ⌝ }
     ensures { λ r. ⌜ r ≡ fieldsOf (now (e .entry)) ⌝ }
 {
-    let num = Num {
-        a: e[6],
-        b: e[7],
-        c: e[8],
-    };
-    let len = wide(e[10], e[11]);
-    let link = wide(e[2], e[3]);
-    let misfit = misfits(e[4], e[5], num, len);
-    let arrived = unit::read(message(e));
-    match coded_as(e[4], e[5], num, len, arrived) {
-        Coded::Unknown => Reading::UnknownCode,
-        Coded::Of(event) => {
-            if misfit {
-                return Reading::Misfit;
-            }
-            Reading::Holds {
-                link: link,
-                event: event,
-            }
+    match e[4] {
+        1 => fits(numbered(e) | (1 <= e[5]) | (e.len() <= HEAD + 4)),
+        2 => bare(e),
+        3 => bare(e),
+        4 => bare(e),
+        5 => bare(e),
+        6 => bare(e),
+        7 => fits(lengthy(e) | (1 <= e[5])),
+        8 => bare(e),
+        9 => bare(e),
+        16 => fits(lengthy(e) | numbered(e) | bad_field(e[5])),
+        17 => fits(lengthy(e) | numbered(e) | bad_field(e[5])),
+        18 => {
+            let small = (e[6] == 0) & (e[7] == 0) & (e[8] <= 1);
+            fits(lengthy(e) | bad_field(e[5]) | !small)
         }
+        19 => bare(e),
+        20 => fits(1 <= e[5]),
+        21 => bare(e),
+        22 => bare(e),
+        23 => fits(numbered(e) | (1 <= e[5])),
+        24 => fits(numbered(e) | (1 <= e[5])),
+        25 => bare(e),
+        32 => bare(e),
+        33 => bare(e),
+        34 => bare(e),
+        35 => bare(e),
+        36 => bare(e),
+        37 => bare(e),
+        38 => bare(e),
+        39 => fits(lengthy(e) | numbered(e) | (4 <= e[5])),
+        40 => bare(e),
+        48 => bare(e),
+        49 => bare(e),
+        50 => bare(e),
+        _ => Reading::UnknownCode,
     }
 }
 

@@ -23,7 +23,9 @@ framed-requires : tie.Need-framed-requires
 framed-requires c κs = search needs
 
 fields-requires : tie.Need-fields-requires
-fields-requires c κs = sound EV _ (sym (c .before .framed .ensures) ∙ c .if1 .taken) .twelve
+fields-requires c κs =
+    let s = sound EV _ (sym (c .before .framed .ensures) ∙ c .if1 .taken) in
+    (s .twelve, s .follows)
 
 returns : tie.Need-returns
 returns c = taken _ (sym (c .before .before .framed .ensures) ∙ c .before .if1 .taken) (c .fields .ensures)

@@ -1,8 +1,48 @@
--- `events::coded_as` meets its contract: at each code the list computes, and past them none is left. Assumes nothing.
+-- `events::event` meets its contract: at each code the list computes, and past them none is left. Assumes nothing.
 use borrow.Author.Tests.{ne-eqb}
+use borrow.Author.Needs.{needs}
 use Rattle.record.specs.EventRecord.{codedAt}
-use Rattle.record.proofs.events.coded_as.Statement.{statement}
-use Rattle.record.proofs.events.coded_as.Tie as tie
+use Rattle.record.proofs.events.event.Statement.{statement}
+use Rattle.record.proofs.events.event.Tie as tie
+
+shared-slice-read-match : tie.Need-shared-slice-read-match
+shared-slice-read-match c = search needs
+
+number-requires : tie.Need-number-requires
+number-requires c κs = search needs
+
+shared-slice-read-t8 : tie.Need-shared-slice-read-t8
+shared-slice-read-t8 c = search needs
+
+shared-slice-read-t10 : tie.Need-shared-slice-read-t10
+shared-slice-read-t10 c = search needs
+
+shared-slice-read-t12 : tie.Need-shared-slice-read-t12
+shared-slice-read-t12 c = search needs
+
+shared-slice-read-t14 : tie.Need-shared-slice-read-t14
+shared-slice-read-t14 c = search needs
+
+message-requires : tie.Need-message-requires
+message-requires c κs = search needs
+
+read-requires : tie.Need-read-requires
+read-requires c κs = search needs
+
+number-requires-2 : tie.Need-number-requires-2
+number-requires-2 c κs = search needs
+
+shared-slice-read-wide : tie.Need-shared-slice-read-wide
+shared-slice-read-wide c = search needs
+
+shared-slice-read-wide-2 : tie.Need-shared-slice-read-wide-2
+shared-slice-read-wide-2 c = search needs
+
+wide-requires : tie.Need-wide-requires
+wide-requires c κs = search needs
+
+shared-slice-read-t24 : tie.Need-shared-slice-read-t24
+shared-slice-read-t24 c = search needs
 
 returns : tie.Need-returns
 unfolding codedAt
@@ -30,7 +70,7 @@ returns-6 c = rw (c .match .keys6)
 
 returns-7 : tie.Need-returns-7
 unfolding codedAt
-returns-7 c = rw (c .match .keys7)
+returns-7 c = rw (c .before .match .keys7, c .number .ensures)
 
 returns-8 : tie.Need-returns-8
 unfolding codedAt
@@ -42,15 +82,15 @@ returns-9 c = rw (c .match .keys9)
 
 returns-10 : tie.Need-returns-10
 unfolding codedAt
-returns-10 c = rw (c .match .keys10)
+returns-10 c = rw (c .before .match .keys10)
 
 returns-11 : tie.Need-returns-11
 unfolding codedAt
-returns-11 c = rw (c .match .keys11)
+returns-11 c = rw (c .before .match .keys11)
 
 returns-12 : tie.Need-returns-12
 unfolding codedAt
-returns-12 c = rw (c .match .keys12)
+returns-12 c = rw (c .before .before .match .keys12)
 
 returns-13 : tie.Need-returns-13
 unfolding codedAt
@@ -58,7 +98,7 @@ returns-13 c = rw (c .match .keys13)
 
 returns-14 : tie.Need-returns-14
 unfolding codedAt
-returns-14 c = rw (c .match .keys14)
+returns-14 c = rw (c .before .before .before .match .keys14, c .number2 .ensures, c .before .read .ensures, c .before .before .message .ensures)
 
 returns-15 : tie.Need-returns-15
 unfolding codedAt
@@ -74,7 +114,7 @@ returns-17 c = rw (c .match .keys17)
 
 returns-18 : tie.Need-returns-18
 unfolding codedAt
-returns-18 c = rw (c .match .keys18)
+returns-18 c = rw (c .before .before .before .match .keys18, c .wide .ensures)
 
 returns-19 : tie.Need-returns-19
 unfolding codedAt
@@ -110,7 +150,7 @@ returns-26 c = rw (c .match .keys26)
 
 returns-27 : tie.Need-returns-27
 unfolding codedAt
-returns-27 c = rw (c .match .keys27)
+returns-27 c = rw (c .before .match .keys27)
 
 returns-28 : tie.Need-returns-28
 unfolding codedAt
@@ -166,10 +206,23 @@ returns-32 c =
       ne-eqb _ _ (r .1),
     )
 
-pub coded-as-spec : {M : Type 1} → statement M
-coded-as-spec =
+pub event-spec : {M : Type 1} → statement M
+event-spec =
     tie.close
     (tie.spec
+    shared-slice-read-match
+    number-requires
+    shared-slice-read-t8
+    shared-slice-read-t10
+    shared-slice-read-t12
+    shared-slice-read-t14
+    message-requires
+    read-requires
+    number-requires-2
+    shared-slice-read-wide
+    shared-slice-read-wide-2
+    wide-requires
+    shared-slice-read-t24
     returns
     returns-2
     returns-3
