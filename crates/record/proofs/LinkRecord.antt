@@ -1,13 +1,13 @@
 -- The link record's round trips. Assumes nothing.
 use mathlib.Core.Path.{_≡_, refl, sym, ap, _∙_}
-use mathlib.Core.Bool.{Bool, true, false, cond, _&&_, _||_, true≢false}
+use mathlib.Core.Bool.{Bool, true, false, cond, _&&_, _||_, and-true, and-false, and-assoc, true≢false}
 use mathlib.Core.List.{List, [], _∷_}
 use Prim.Native.Nat.{ℕ, zero, suc, _+_, _*_, _/_, _%_, _<_, _≤_}
 use native.Mathlib.Omega.{arith}
 use native.Mathlib.Nat.{div-add-mod'}
 use lib.Dec.{eqb, leb}
 use lib.ListN.{length}
-use borrow.Author.Tests.{eqb-true, leb-true, le-leb}
+use borrow.Author.Tests.{eqb-true, leb-true, le-leb, lt-leb}
 use Rattle.unit.specs.declared.Mps.{Mps}
 use Rattle.unit.specs.declared.Ups.{Ups}
 use Rattle.unit.specs.Proving.{mpsCode, upsCode}
@@ -19,9 +19,11 @@ use Rattle.table6.proofs.Every.{left, right}
 use Rattle.link.specs.declared.Link.{Link}
 use Rattle.link.specs.Signal.{none}
 use Rattle.record.specs.declared.Slot.{Slot}
+use Rattle.record.specs.declared.SomeState.{SomeState}
+use Rattle.record.specs.declared.SomeMps.{SomeMps}
 use Rattle.record.specs.Octets.{Octets, at, two, bit}
 use Rattle.record.proofs.Octets.{bit-le}
-use Rattle.record.specs.LinkRecord.{stateCode, stateAt, mpsAt, upsAt, octetsOf, linkOf, wellFormed, slotOf, Unpacked, PackedWell, UnpackedGood, Repacked}
+use Rattle.record.specs.LinkRecord.{stateCode, stateAt, someState, mpsAt, someMps, upsAt, octetsOf, linkOf, wellFormed, restFormed, slotOf, Unpacked, PackedWell, UnpackedGood, Repacked}
 
 state-back : (s : State) → stateAt (stateCode s) ≡ s
 state-back State.S111 = refl
@@ -67,7 +69,7 @@ second false true false = refl
 second false false true = refl
 second false false false = refl
 
-third : (x y z : Bool) → eqb ((bit x + 2 * bit y + 4 * bit z) / 4) 1 ≡ z
+third : (x y z : Bool) → eqb ((bit x + 2 * bit y + 4 * bit z) / 4 % 2) 1 ≡ z
 third true true true = refl
 third true true false = refl
 third true false true = refl
@@ -83,7 +85,7 @@ low-flag true false = refl
 low-flag false true = refl
 low-flag false false = refl
 
-high-flag : (x y : Bool) → eqb ((bit x + 2 * bit y) / 2) 1 ≡ y
+high-flag : (x y : Bool) → eqb ((bit x + 2 * bit y) / 2 % 2) 1 ≡ y
 high-flag true true = refl
 high-flag true false = refl
 high-flag false true = refl
@@ -173,11 +175,11 @@ mps-same c h = alike (λ k. mpsCode (mpsAt k)) (λ k. k) 3 0 refl c (omega arith
 ups-same : (c : ℕ) → c ≤ 1 → upsCode (upsAt c) ≡ c
 ups-same c h = alike (λ k. upsCode (upsAt k)) (λ k. k) 2 0 refl c (omega arith)
 
-flags-same : (c : ℕ) → c ≤ 3 → bit (eqb (c % 2) 1) + 2 * bit (eqb (c / 2) 1) ≡ c
-flags-same c h = alike (λ k. bit (eqb (k % 2) 1) + 2 * bit (eqb (k / 2) 1)) (λ k. k) 4 0 refl c (omega arith)
+flags-same : (c : ℕ) → c ≤ 3 → bit (eqb (c % 2) 1) + 2 * bit (eqb (c / 2 % 2) 1) ≡ c
+flags-same c h = alike (λ k. bit (eqb (k % 2) 1) + 2 * bit (eqb (k / 2 % 2) 1)) (λ k. k) 4 0 refl c (omega arith)
 
-timers-same : (c : ℕ) → c ≤ 7 → bit (eqb (c % 2) 1) + 2 * bit (eqb (c / 2 % 2) 1) + 4 * bit (eqb (c / 4) 1) ≡ c
-timers-same c h = alike (λ k. bit (eqb (k % 2) 1) + 2 * bit (eqb (k / 2 % 2) 1) + 4 * bit (eqb (k / 4) 1)) (λ k. k) 8 0 refl c (omega arith)
+timers-same : (c : ℕ) → c ≤ 7 → bit (eqb (c % 2) 1) + 2 * bit (eqb (c / 2 % 2) 1) + 4 * bit (eqb (c / 4 % 2) 1) ≡ c
+timers-same c h = alike (λ k. bit (eqb (k % 2) 1) + 2 * bit (eqb (k / 2 % 2) 1) + 4 * bit (eqb (k / 4 % 2) 1)) (λ k. k) 8 0 refl c (omega arith)
 
 known-same : (c : ℕ) → c ≤ 1 → bit (eqb c 1) ≡ c
 known-same c h = alike (λ k. bit (eqb k 1)) (λ k. k) 2 0 refl c (omega arith)
@@ -295,3 +297,47 @@ tells r true e = (right (eqb (length r) 16) (wellFormed r) e, refl)
 pub slot-tells : (r : List ℕ) → SlotTold r (slotOf r)
 unfolding slotOf
 slot-tells r = tells r (eqb (length r) 16 && wellFormed r) refl
+
+-- STATE AND MPS, decoded and tested at once
+
+abbrev pub StateTold : ℕ → SomeState → Type 0
+StateTold c SomeState.None = leb 1 c && leb c 8 ≡ false
+StateTold c (SomeState.Of s) = (leb 1 c ≡ true) × (leb c 8 ≡ true) × (s ≡ stateAt c)
+
+pub state-tells : (c : ℕ) → StateTold c (someState c)
+state-tells zero = refl
+state-tells (suc zero) = (refl, refl, refl)
+state-tells (suc (suc zero)) = (refl, refl, refl)
+state-tells (suc (suc (suc zero))) = (refl, refl, refl)
+state-tells (suc (suc (suc (suc zero)))) = (refl, refl, refl)
+state-tells (suc (suc (suc (suc (suc zero))))) = (refl, refl, refl)
+state-tells (suc (suc (suc (suc (suc (suc zero)))))) = (refl, refl, refl)
+state-tells (suc (suc (suc (suc (suc (suc (suc zero))))))) = (refl, refl, refl)
+state-tells (suc (suc (suc (suc (suc (suc (suc (suc zero)))))))) = (refl, refl, refl)
+state-tells (suc (suc (suc (suc (suc (suc (suc (suc (suc c))))))))) =
+    ap (λ (x : Bool). leb 1 (suc (suc (suc (suc (suc (suc (suc (suc (suc c))))))))) && x) (lt-leb (suc (suc (suc (suc (suc (suc (suc (suc (suc c))))))))) 8 (omega arith)) ∙ and-false (leb 1 (suc (suc (suc (suc (suc (suc (suc (suc (suc c))))))))))
+
+abbrev pub MpsTold : ℕ → SomeMps → Type 0
+MpsTold c SomeMps.None = leb c 2 ≡ false
+MpsTold c (SomeMps.Of m) = (leb c 2 ≡ true) × (m ≡ mpsAt c)
+
+pub mps-tells : (c : ℕ) → MpsTold c (someMps c)
+mps-tells zero = (refl, refl)
+mps-tells (suc zero) = (refl, refl)
+mps-tells (suc (suc zero)) = (refl, refl)
+mps-tells (suc (suc (suc c))) = lt-leb (suc (suc (suc c))) 2 (omega arith)
+
+not-both : (a b c : Bool) → b && c ≡ false → a && b && c ≡ false
+not-both a b c h = and-assoc a b c ∙ ap (λ (x : Bool). a && x) h ∙ and-false a
+
+pub no-state : (r : List ℕ) → leb 1 (at r 2) && leb (at r 2) 8 ≡ false → wellFormed r ≡ false
+unfolding wellFormed
+no-state r h = rw (not-both (eqb (at r 0) 76 && eqb (at r 1) 75) (leb 1 (at r 2)) (leb (at r 2) 8) h)
+
+pub no-mps : (r : List ℕ) → leb (at r 4) 2 ≡ false → wellFormed r ≡ false
+unfolding wellFormed
+no-mps r h = simp (h, and-false)
+
+pub the-rest : (r : List ℕ) → leb 1 (at r 2) ≡ true → leb (at r 2) 8 ≡ true → leb (at r 4) 2 ≡ true → restFormed r ≡ wellFormed r
+unfolding wellFormed restFormed
+the-rest r h k m = simp (h, k, m, and-true)

@@ -12,6 +12,8 @@ use Rattle.table6.specs.declared.State.{State}
 use Rattle.link.specs.declared.Link.{Link}
 use Rattle.link.specs.Kept.{NoneIsZero}
 use Rattle.record.specs.declared.Slot.{Slot}
+use Rattle.record.specs.declared.SomeState.{SomeState}
+use Rattle.record.specs.declared.SomeMps.{SomeMps}
 use Rattle.record.specs.Octets.{Octets, at, two, bit}
 
 abbrev pub recordOctets : ℕ
@@ -63,12 +65,12 @@ linkOf r =
     record {
       state = stateAt (at r 2);
       ins = eqb (at r 3 % 2) 1;
-      lpo = eqb (at r 3 / 2) 1;
+      lpo = eqb (at r 3 / 2 % 2) 1;
       mps = mpsAt (at r 4);
       ups = upsAt (at r 5);
       t1 = eqb (at r 6 % 2) 1;
       t2 = eqb (at r 6 / 2 % 2) 1;
-      t3 = eqb (at r 6 / 4) 1;
+      t3 = eqb (at r 6 / 4 % 2) 1;
       bsnt = record { known = eqb (at r 7) 1; num = record { a = at r 8; b = at r 9; c = at r 10 } };
       c1 = two (at r 12) (at r 13);
       n1 = two (at r 14) (at r 15);
@@ -83,6 +85,26 @@ wellFormed r =
     && leb (at r 2) 8
     && leb (at r 3) 3
     && leb (at r 4) 2
+    && leb (at r 5) 1
+    && leb (at r 6) 7
+    && leb (at r 7) 1
+    && (eqb (at r 7) 1 || eqb (at r 8) 0 && eqb (at r 9) 0 && eqb (at r 10) 0)
+    && eqb (at r 11) 0
+    && leb 1 (two (at r 14) (at r 15))
+
+-- The same with state and MPS decoded and tested at once, as the code does it. Nothing here has to be believed: slotOf is what the code is proved against.
+abbrev pub someState : ℕ → SomeState
+someState c =
+    getD (SomeState.None ∷ SomeState.Of State.S111 ∷ SomeState.Of State.S141 ∷ SomeState.Of State.S212 ∷ SomeState.Of State.S222 ∷ SomeState.Of State.S242 ∷ SomeState.Of State.S2103 ∷ SomeState.Of State.S2104 ∷ SomeState.Of State.S3105 ∷ []) c SomeState.None
+
+abbrev pub someMps : ℕ → SomeMps
+someMps c = getD (SomeMps.Of Mps.Neutral ∷ SomeMps.Of Mps.Normal ∷ SomeMps.Of Mps.Emergency ∷ []) c SomeMps.None
+
+unfoldable pub restFormed : List ℕ → Bool
+restFormed r =
+    eqb (at r 0) 76
+    && eqb (at r 1) 75
+    && leb (at r 3) 3
     && leb (at r 5) 1
     && leb (at r 6) 7
     && leb (at r 7) 1

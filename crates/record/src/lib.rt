@@ -15,7 +15,7 @@ ghost use mathlib.Core.Bool.{_&&_};
 ghost use lib.Dec.{eqb};
 ghost use lib.ListN.{length};
 ghost use Rattle.record.specs.Octets.{at, two, bit};
-ghost use Rattle.record.specs.LinkRecord.{stateCode, stateAt, mpsAt, upsAt, octetsOf, linkOf, wellFormed, slotOf};
+ghost use Rattle.record.specs.LinkRecord.{stateCode, stateAt, someState, mpsAt, someMps, upsAt, octetsOf, linkOf, restFormed, slotOf};
 
 // The octets of a link's record.
 pub const RECORD: usize = 16;
@@ -51,29 +51,41 @@ fn state_code(s: State) -> u8
     }
 }
 
-fn state_of(code: u8) -> State
-    ensures { λ r. ⌜ r ≡ stateAt code ⌝ }
+// What an octet is as a state, or as MPS: one of them, or none. Decoded and tested at once.
+enum SomeState {
+    None,
+    Of(State),
+}
+
+enum SomeMps {
+    None,
+    Of(Mps),
+}
+
+fn state_of(code: u8) -> SomeState
+    ensures { λ r. ⌜ r ≡ someState code ⌝ }
 {
     match code {
-        0 => State::S111,
-        1 => State::S111,
-        2 => State::S141,
-        3 => State::S212,
-        4 => State::S222,
-        5 => State::S242,
-        6 => State::S2103,
-        7 => State::S2104,
-        _ => State::S3105,
+        1 => SomeState::Of(State::S111),
+        2 => SomeState::Of(State::S141),
+        3 => SomeState::Of(State::S212),
+        4 => SomeState::Of(State::S222),
+        5 => SomeState::Of(State::S242),
+        6 => SomeState::Of(State::S2103),
+        7 => SomeState::Of(State::S2104),
+        8 => SomeState::Of(State::S3105),
+        _ => SomeState::None,
     }
 }
 
-fn mps_of(code: u8) -> Mps
-    ensures { λ r. ⌜ r ≡ mpsAt code ⌝ }
+fn mps_of(code: u8) -> SomeMps
+    ensures { λ r. ⌜ r ≡ someMps code ⌝ }
 {
     match code {
-        0 => Mps::Neutral,
-        1 => Mps::Normal,
-        _ => Mps::Emergency,
+        0 => SomeMps::Of(Mps::Neutral),
+        1 => SomeMps::Of(Mps::Normal),
+        2 => SomeMps::Of(Mps::Emergency),
+        _ => SomeMps::None,
     }
 }
 
@@ -123,15 +135,13 @@ fn marked(r: &[u8], mark: &[u8; 2]) -> bool
     (r[0] == mark[0]) & (r[1] == mark[1])
 }
 
-fn well_formed(r: &[u8]) -> bool
+// Whether all is well-formed but state and MPS.
+fn rest_formed(r: &[u8]) -> bool
     requires { ⌜ length (now r) ≡ 16 ⌝ }
-    ensures { λ b. ⌜ b ≡ wellFormed (now (r .entry)) ⌝ }
+    ensures { λ b. ⌜ b ≡ restFormed (now (r .entry)) ⌝ }
 {
     marked(r, &LK)
-        && (1 <= r[2])
-        && (r[2] <= 8)
         && (r[3] <= 3)
-        && (r[4] <= 2)
         && (r[5] <= 1)
         && (r[6] <= 7)
         && (r[7] <= 1)
@@ -140,19 +150,19 @@ fn well_formed(r: &[u8]) -> bool
         && (1 <= wide(r[14], r[15]))
 }
 
-fn unpack(r: &[u8]) -> Link
-    requires { ⌜ length (now r) ≡ 16 ⌝ }
+fn unpack(r: &[u8], state: State, mps: Mps) -> Link
+    requires { ⌜ (length (now r) ≡ 16) × (state ≡ stateAt (at (now r) 2)) × (mps ≡ mpsAt (at (now r) 4)) ⌝ }
     ensures { λ l. ⌜ l ≡ linkOf (now (r .entry)) ⌝ }
 {
     Link {
-        state: state_of(r[2]),
+        state: state,
         ins: r[3] % 2 == 1,
-        lpo: r[3] / 2 == 1,
-        mps: mps_of(r[4]),
+        lpo: r[3] / 2 % 2 == 1,
+        mps: mps,
         ups: ups_of(r[5]),
         t1: r[6] % 2 == 1,
         t2: r[6] / 2 % 2 == 1,
-        t3: r[6] / 4 == 1,
+        t3: r[6] / 4 % 2 == 1,
         bsnt: Bsnt {
             known: r[7] == 1,
             num: Num {
@@ -178,9 +188,15 @@ pub fn read_link(r: &[u8]) -> Slot
     if r.len() != RECORD {
         return Slot::IllFormed;
     }
-    if well_formed(r) {
-        Slot::Holds(unpack(r))
-    } else {
-        Slot::IllFormed
+    match state_of(r[2]) {
+        SomeState::None => Slot::IllFormed,
+        SomeState::Of(state) => match mps_of(r[4]) {
+            SomeMps::None => Slot::IllFormed,
+            SomeMps::Of(mps) => if rest_formed(r) {
+                Slot::Holds(unpack(r, state, mps))
+            } else {
+                Slot::IllFormed
+            },
+        },
     }
 }
