@@ -1,3 +1,4 @@
+pub mod Branches
 pub mod EventRecord
 pub mod Frame
 pub mod LinkRecord

@@ -14,13 +14,13 @@ use Rattle.link.proofs.Kept.{kept}
 use Rattle.record.specs.Octets.{over, putAt}
 use Rattle.record.specs.LinkRecord.{octetsOf}
 use Rattle.record.specs.Frame.{EV, linkAt, messageOf}
-use Rattle.record.specs.EventRecord.{framed}
+use Rattle.record.specs.EventRecord.{framed, eventOf}
 use Rattle.record.specs.SignalRecord.{joined}
 use Rattle.record.proofs.Frame.{sound, message-length}
 use Rattle.record.proofs.SignalRecord.{joined-small}
 use Rattle.sscf.specs.declared.checks.Refusal.{Refusal}
 use Rattle.sscf.specs.Checks.{passed, refused, first}
-use Rattle.sscf.specs.Step.{records, eventOf, linkFor, checks, answered, answering, refusedBy, stepCall}
+use Rattle.sscf.specs.Step.{records, linkFor, checks, answered, answering, refusedBy, stepCall}
 use Rattle.sscf.proofs.Places.{clear}
 
 pub record Taken (t e : List ℕ) (room : ℕ) : Type 0 where

@@ -14,12 +14,13 @@ use Rattle.link.specs.Step as machine
 use Rattle.record.specs.Octets.{over, putAt}
 use Rattle.record.specs.LinkRecord.{wellFormed, octetsOf, GoodLink}
 use Rattle.record.specs.Frame.{linkAt, messageOf}
+use Rattle.record.specs.EventRecord.{eventOf}
 use Rattle.record.specs.SignalRecord.{joined}
 use Rattle.record.proofs.Over.{length-over, over-front, over-rest, length-put, put-there, put-before, put-after}
 use Rattle.record.proofs.LinkRecord.{octets-length, packed-well, unpacked-good}
 use Rattle.sscf.specs.declared.checks.Refusal.{Refusal}
 use Rattle.sscf.specs.Checks.{number, Verdict, passed, refused, first}
-use Rattle.sscf.specs.Step.{recordAt, eventOf, linkFor, checks, Outcome, answered, answering, refusedBy, performed, outcome, stepCall}
+use Rattle.sscf.specs.Step.{recordAt, linkFor, checks, Outcome, answered, answering, refusedBy, performed, outcome, stepCall}
 use Rattle.sscf.specs.Untouched.{RefusalsUntouched, OthersUntouched, RestUntouched, AtMost4192, SameLengths, Refused4191, Taken4192, Written, AcceptedWritten, StaysWellFormed}
 use Rattle.sscf.proofs.Places.{inside, clear, none}
 use Rattle.sscf.proofs.Taken.{taken, Makes, made-after, room-for, step-accepted}

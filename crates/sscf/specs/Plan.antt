@@ -7,7 +7,8 @@ use Rattle.link.specs.Stored.{signalsOf}
 use Rattle.sscf.specs.declared.checks.Plan.{Plan}
 use Rattle.record.specs.Frame.{linkAt}
 use Rattle.sscf.specs.Checks.{Check, passed, refused, first}
-use Rattle.sscf.specs.Step.{linkFor, eventOf}
+use Rattle.record.specs.EventRecord.{eventOf}
+use Rattle.sscf.specs.Step.{linkFor}
 
 -- A plan after some of the checks of a step.
 abbrev pub Planned : List Check → List ℕ → List ℕ → Plan → Type 0

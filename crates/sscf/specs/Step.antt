@@ -4,16 +4,12 @@ use mathlib.Core.Bool.{Bool, true, false, not, _&&_, _||_}
 use mathlib.Core.List.{List, [], _∷_}
 use lib.Dec.{eqb, leb, ltb}
 use lib.ListN.{length, take, drop}
-use Rattle.unit.specs.Unit.{arrived}
 use Rattle.link.specs.declared.Link.{Link}
-use Rattle.link.specs.declared.Event.{Event}
-use Rattle.link.specs.declared.Event.the-variants as event
 use Rattle.link.specs.Step as machine
-use Rattle.record.specs.declared.events.Coded.{Coded}
 use Rattle.record.specs.Octets.{over, putAt}
 use Rattle.record.specs.LinkRecord.{recordOctets, wellFormed, linkOf, octetsOf}
 use Rattle.record.specs.Frame.{headOctets, messageOctets, linkAt, codeAt, paramAt, numberAt, lengthAt, messageOf}
-use Rattle.record.specs.EventRecord.{framed, codedAt, misfit}
+use Rattle.record.specs.EventRecord.{framed, Coded, codedIn, eventOf, misfit}
 use Rattle.record.specs.SignalRecord.{joined}
 use Rattle.sscf.specs.declared.Answer.{Answer}
 use Rattle.sscf.specs.declared.checks.Refusal.{Refusal}
@@ -38,20 +34,9 @@ recordAt t k = take recordOctets (drop (recordOctets * k) t)
 
 -- THE EVENT
 
-abbrev pub codedIn : List ℕ → Coded
-codedIn e = codedAt (codeAt e) (paramAt e) (numberAt e) (lengthAt e) (arrived (messageOf e))
-
 abbrev pub unknown : Coded → Bool
 unknown Coded.Unknown = true
 unknown (Coded.Of x) = false
-
--- what the code says; where it says nothing, check 3 has refused
-abbrev pub said : Coded → Event
-said Coded.Unknown = event.Continue
-said (Coded.Of x) = x
-
-abbrev pub eventOf : List ℕ → Event
-eventOf e = said (codedIn e)
 
 -- "Expiry of a timer not marked running."
 abbrev pub idle : Link → ℕ → Bool

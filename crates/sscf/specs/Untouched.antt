@@ -10,8 +10,9 @@ use Rattle.link.specs.Fresh.{freshLink}
 use Rattle.link.specs.Step as machine
 use Rattle.record.specs.LinkRecord.{wellFormed, octetsOf}
 use Rattle.record.specs.Frame.{linkAt, messageOf}
+use Rattle.record.specs.EventRecord.{eventOf}
 use Rattle.record.specs.SignalRecord.{joined}
-use Rattle.sscf.specs.Step.{records, recordAt, eventOf, linkFor, answered, answering, Outcome, stepCall}
+use Rattle.sscf.specs.Step.{records, recordAt, linkFor, answered, answering, Outcome, stepCall}
 use Rattle.sscf.specs.Fresh.{freshCall}
 
 -- THE STEP. A refusal answers no octets and no signals, and changes nothing.

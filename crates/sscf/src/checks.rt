@@ -1,6 +1,5 @@
 // Document 01's checks, in its order: the first that holds refuses the call.
 
-use link::Event;
 use link::Link;
 use link::Reply;
 use link::Said;
@@ -12,9 +11,9 @@ ghost use mathlib.Core.Path.{_≡_};
 ghost use Prim.Native.Nat.{_≤_, _<_};
 ghost use lib.ListN.{length, drop};
 ghost use Rattle.record.specs.LinkRecord.{slotOf};
-ghost use Rattle.record.specs.Frame.{headOctets, linkAt};
+ghost use Rattle.record.specs.Frame.{headOctets};
 ghost use Rattle.sscf.specs.Checks.{number};
-ghost use Rattle.sscf.specs.Step.{badTable, records, recordAt, eventOf, idle, checks};
+ghost use Rattle.sscf.specs.Step.{badTable, records, recordAt, idle, checks};
 ghost use Rattle.sscf.specs.Plan.{Planned};
 
 pub enum Refusal {
@@ -74,7 +73,7 @@ fn slot_at(t: &[u8], k: usize) -> Slot
 fn idle(l: Link, code: u8) -> bool
     ensures { λ r. ⌜ r ≡ idle l code ⌝ }
 {
-    ((code == 48) & !l.t1) | ((code == 49) & !l.t2) | ((code == 50) & !l.t3)
+    ((code == 48) && !l.t1) || ((code == 49) && !l.t2) || ((code == 50) && !l.t3)
 }
 
 // What the checks come to: a refusal, or the link, its record after the event and what is said.
@@ -83,11 +82,12 @@ pub enum Plan {
     Go { link: u16, next: Link, said: Said },
 }
 
-// Checks 5 to 9, of link k and event x, which the octets e hold.
-fn link_plan(t: &[u8], e: &[u8], k: u16, x: Event, room: usize) -> Plan
-    requires { ⌜ (headOctets ≤ length (now e)) × (k ≡ linkAt (now e)) × (x ≡ eventOf (now e)) ⌝ }
+// Checks 5 to 9, of an event that fits. It is read where it is used, behind the record: so it is looked at once, and little is held meanwhile.
+fn link_plan(t: &[u8], e: &[u8], room: usize) -> Plan
+    requires { ⌜ headOctets ≤ length (now e) ⌝ }
     ensures { λ r. ⌜ Planned (drop 4 (checks (now (t .entry)) (now (e .entry)) room)) (now (t .entry)) (now (e .entry)) r ⌝ }
 {
+    let k = events::link(e);
     if t.len() / RECORD <= k as usize {
         return Plan::Refused(Refusal::Link);
     }
@@ -97,7 +97,7 @@ fn link_plan(t: &[u8], e: &[u8], k: u16, x: Event, room: usize) -> Plan
             if idle(l, e[4]) {
                 return Plan::Refused(Refusal::Timer);
             }
-            let turn = link::stepped(l, x);
+            let turn = link::stepped(l, events::event(e));
             let next = turn.link;
             let reply = turn.reply;
             match reply {
@@ -128,6 +128,6 @@ pub fn planned(t: &[u8], e: &[u8], room: usize) -> Plan
         Reading::BadFrame => Plan::Refused(Refusal::Frame),
         Reading::UnknownCode => Plan::Refused(Refusal::Code),
         Reading::Misfit => Plan::Refused(Refusal::Field),
-        Reading::Holds { link, event } => link_plan(t, e, link, event, room),
+        Reading::Fits => link_plan(t, e, room),
     }
 }

@@ -1,11 +1,12 @@
 -- `record::rest_formed` meets its contract: each `&&` goes on to its second test where its first holds. Assumes nothing.
 use borrow.Author.Needs.{needs}
-use mathlib.Core.Path.{_≡_, refl, sym, ap, _∙_}
-use mathlib.Core.Bool.{Bool, true, false, _&&_, _||_}
+use mathlib.Core.Path.{_≡_, refl, _∙_}
+use mathlib.Core.Bool.{_&&_, _||_}
 use mathlib.Core.Logic.{⊎-elim}
 use lib.Dec.{eqb, leb}
 use Rattle.record.specs.Octets.{at, two}
 use Rattle.record.specs.LinkRecord.{restFormed}
+use Rattle.record.proofs.Branches.{on, off}
 use Rattle.record.proofs.rest_formed.Statement.{statement}
 use Rattle.record.proofs.rest_formed.Tie as tie
 
@@ -47,12 +48,6 @@ shared-slice-read-wide-2 c = search needs
 
 wide-requires : tie.Need-wide-requires
 wide-requires c κs = search needs
-
-on : {a b x : Bool} → a ≡ true → x ≡ b → x ≡ (a && b)
-on {b = b} p q = q ∙ ap (λ v. v && b) (sym p)
-
-off : {a x : Bool} (b : Bool) → a ≡ false → x ≡ a → x ≡ (a && b)
-off b p q = q ∙ p ∙ ap (λ v. v && b) (sym p)
 
 and1 : (j : tie.Joined1) → let r = j .before .before .before .before .args .r .now in j .if1 .if2 ≡ (j .before .marked .result && leb (at r 3) 3)
 and1 j =

@@ -17,23 +17,27 @@ use Rattle.record.specs.declared.Slot.{Slot}
 use Rattle.record.specs.LinkRecord.{recordOctets, wellFormed, slotOf}
 use Rattle.record.specs.Frame.{linkAt, codeAt}
 use Rattle.record.proofs.LinkRecord.{SlotTold, slot-tells}
-use Rattle.sscf.specs.Step.{records, recordAt, eventOf, idle}
+use Rattle.record.specs.EventRecord.{eventOf}
+use Rattle.sscf.specs.Step.{records, recordAt, idle}
 use Rattle.sscf.proofs.Places.{record-length}
 use Rattle.sscf.proofs.checks.link_plan.Statement.{statement}
 use Rattle.sscf.proofs.checks.link_plan.Tie as tie
 
 -- past check 5: the table, the event, and the named record, which the code finds by its number k
 abbrev T : tie.Else1 → List ℕ
-T c = c .before .before .before .args .t .now
+T c = c .before .before .before .before .args .t .now
 
 abbrev E : tie.Else1 → List ℕ
-E c = c .before .before .before .args .e .now
+E c = c .before .before .before .before .args .e .now
 
 abbrev R : tie.Else1 → List ℕ
 R c = recordAt (T c) (linkAt (E c))
 
+named : (c : tie.Else1) → c .before .link .result ≡ linkAt (E c)
+named c = c .before .link .ensures
+
 below : (c : tie.Else1) → linkAt (E c) < records (T c)
-below c = subst (λ (k : ℕ). k < records (T c)) (c .before .before .before .pre .1) (c .if1 .left)
+below c = subst (λ (k : ℕ). k < records (T c)) (named c) (c .if1 .left)
 
 inside : (c : tie.Else1) → leb (records (T c)) (linkAt (E c)) ≡ false
 inside c = lt-leb _ _ (below c)
@@ -41,7 +45,7 @@ inside c = lt-leb _ _ (below c)
 -- what the reading of the record told
 told : (c : tie.After-slot-at) (s : Slot) → c .slot-at .result ≡ s → SlotTold (R (c .before)) s
 told c s e =
-    let r : c .slot-at .result ≡ slotOf (R (c .before)) = c .slot-at .ensures ∙ ap (λ (k : ℕ). slotOf (recordAt (T (c .before)) k)) (c .before .before .before .before .pre .1) in
+    let r : c .slot-at .result ≡ slotOf (R (c .before)) = c .slot-at .ensures ∙ ap (λ (k : ℕ). slotOf (recordAt (T (c .before)) k)) (named (c .before)) in
     subst (SlotTold (R (c .before))) (sym r ∙ e) (slot-tells (R (c .before)))
 
 ill : (c : tie.After-slot-at) → c .slot-at .result ≡ Slot.IllFormed → wellFormed (R (c .before)) ≡ false
@@ -53,21 +57,21 @@ held : (c : tie.After-l) → SlotTold (R (c .before .before .before)) (Slot.Hold
 held c = told (c .before .before) _ (c .l .given .1)
 
 -- past check 7
-running : (c : tie.Else2) → idle (c .before .before .before .before .l .given .0 .0) (codeAt (c .before .before .before .before .before .before .before .before .before .before .args .e .now)) ≡ false
+running : (c : tie.Else2) → idle (c .before .before .before .before .l .given .0 .0) (codeAt (c .before .before .before .before .before .before .before .before .before .before .before .args .e .now)) ≡ false
 running c = sym (c .before .idle .ensures) ∙ c .if2 .left
 
 -- what the step left and said, of the record and the event that the octets hold
 abbrev L : tie.After-stepped → Link
-L c = c .before .before .before .before .before .l .given .0 .0
+L c = c .before .before .before .before .before .before .l .given .0 .0
 
 abbrev Out : tie.After-stepped → machine.Outcome
-Out c = machine.stepOf (L c) (eventOf (c .before .before .before .before .before .before .before .before .before .before .before .args .e .now))
+Out c = machine.stepOf (L c) (eventOf (c .before .before .before .before .before .before .before .before .before .before .before .before .before .args .e .now))
 
 abbrev Turned : tie.After-stepped → machine.Outcome → Type 0
 Turned c o = (c .stepped .result .link ≡ leftBy (L c) o) × (replied (c .stepped .result .reply) ≡ saidBy o)
 
 turned : (c : tie.After-stepped) → Turned c (Out c)
-turned c = subst (λ (x : Event). Turned c (machine.stepOf (L c) x)) (c .before .before .before .before .before .before .before .before .before .before .before .pre .2) (c .stepped .ensures)
+turned c = subst (λ (x : Event). Turned c (machine.stepOf (L c) x)) (c .before .event .ensures) (c .stepped .ensures)
 
 illegal : (c : tie.After-enum-told2) → Out (c .before .before .before) ≡ machine.Illegal
 illegal c = was-illegal (Out (c .before .before .before)) (c .enum-told2 .given .1) (turned (c .before .before .before) .1)
@@ -75,8 +79,17 @@ illegal c = was-illegal (Out (c .before .before .before)) (c .enum-told2 .given 
 legal : (c : tie.After-reply) → Out (c .before .before .before) ≡ machine.Legal (c .before .before .before .stepped .result .link) (signalsOf (c .reply .given .0 .0))
 legal c = was-legal (L (c .before .before .before)) (Out (c .before .before .before)) (c .reply .given .1) (turned (c .before .before .before) .0) (turned (c .before .before .before) .1)
 
+link-requires : tie.Need-link-requires
+link-requires c κs = search needs
+
+cast-if1 : tie.Need-cast-if1
+cast-if1 c = search needs
+
 returns : tie.Need-returns
-returns c = rw (← c .before .before .before .pre .1, le-leb _ _ (c .if1 .taken))
+returns c = rw (← c .before .link .ensures, le-leb _ _ (c .if1 .taken))
+
+cast-slot-at : tie.Need-cast-slot-at
+cast-slot-at c = search needs
 
 slot-at-requires : tie.Need-slot-at-requires
 slot-at-requires c κs = search needs
@@ -98,6 +111,9 @@ returns-2 c =
     let h = held (c .before .before .before .before) in
     rw (inside (c .before .before .before .before .before .before .before), h .0, h .1, sym (c .before .idle .ensures) ∙ c .if2 .taken)
 
+event-requires : tie.Need-event-requires
+event-requires c κs = search needs
+
 stepped-requires : tie.Need-stepped-requires
 stepped-requires c κs = search needs
 
@@ -109,33 +125,37 @@ enum-known-reply c = search needs
 
 returns-3 : tie.Need-returns-3
 returns-3 c =
-    let h = held (c .before .before .before .before .before .before .before .before .before .before) in
-    rw (inside (c .before .before .before .before .before .before .before .before .before .before .before .before .before), h .0, h .1, running (c .before .before .before .before .before .before), legal (c .before .before), lt-ltb _ _ (c .if3 .taken))
+    let h = held (c .before .before .before .before .before .before .before .before .before .before .before) in
+    rw (inside (c .before .before .before .before .before .before .before .before .before .before .before .before .before .before), h .0, h .1, running (c .before .before .before .before .before .before .before), legal (c .before .before), lt-ltb _ _ (c .if3 .taken))
 
 returns-4 : tie.Need-returns-4
 returns-4 c = rw (inside (c .before .before .before), ill (c .before .before) (c .enum-told .given .1))
 
 returns-5 : tie.Need-returns-5
 returns-5 c =
-    let h = held (c .before .before .before .before .before .before .before .before) in
-    rw (inside (c .before .before .before .before .before .before .before .before .before .before .before), h .0, h .1, running (c .before .before .before .before), illegal c)
+    let h = held (c .before .before .before .before .before .before .before .before .before) in
+    rw (inside (c .before .before .before .before .before .before .before .before .before .before .before .before), h .0, h .1, running (c .before .before .before .before .before), illegal c)
 
 returns-6 : tie.Need-returns-6
 returns-6 c =
-    let h = held (c .before .before .before .before .before .before .before .before .before .before) in
-    (rw (inside (c .before .before .before .before .before .before .before .before .before .before .before .before .before), h .0, h .1, running (c .before .before .before .before .before .before), legal (c .before .before), le-ltb _ _ (c .if3 .left)), c .before .before .before .before .before .before .before .before .before .before .before .before .before .before .before .before .pre .1, rw (h .1) (legal (c .before .before)))
+    let h = held (c .before .before .before .before .before .before .before .before .before .before .before) in
+    (rw (inside (c .before .before .before .before .before .before .before .before .before .before .before .before .before .before), h .0, h .1, running (c .before .before .before .before .before .before .before), legal (c .before .before), le-ltb _ _ (c .if3 .left)), c .before .before .before .before .before .before .before .before .before .before .before .before .before .before .before .link .ensures, rw (h .1) (legal (c .before .before)))
 
 pub link-plan-spec : {M : Type 1} → statement M
 link-plan-spec =
     tie.close
     (tie.spec
+    link-requires
+    cast-if1
     returns
+    cast-slot-at
     slot-at-requires
     enum-told
     enum-known-l
     shared-slice-read-idle
     idle-requires
     returns-2
+    event-requires
     stepped-requires
     enum-told-2
     enum-known-reply

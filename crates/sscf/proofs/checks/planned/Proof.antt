@@ -5,13 +5,13 @@ use mathlib.Core.List.{List}
 use Prim.Native.Nat.{ℕ}
 use lib.ListN.{drop}
 use borrow.Author.Needs.{needs}
-use Rattle.record.specs.declared.events.Coded.{Coded}
+use Rattle.record.specs.EventRecord.{Coded}
 use Rattle.record.specs.declared.events.Reading.{Reading}
 use Rattle.record.specs.Frame.{EV}
 use Rattle.record.proofs.Frame.{sound}
 use Rattle.record.proofs.EventRecord.{coded, ToldOf, reading-tells}
 use Rattle.sscf.specs.declared.checks.Plan.{Plan}
-use Rattle.sscf.specs.Step.{badTable, unknown, said, checks}
+use Rattle.sscf.specs.Step.{badTable, unknown, checks}
 use Rattle.sscf.specs.Checks.{Check, first}
 use Rattle.sscf.specs.Plan.{Planned}
 use Rattle.sscf.proofs.checks.planned.Statement.{statement}
@@ -51,17 +51,11 @@ enum-told-2 c = search needs
 enum-told-3 : tie.Need-enum-told-3
 enum-told-3 c = search needs
 
-enum-known-link : tie.Need-enum-known-link
-enum-known-link c = search needs
-
--- the event that was read
-held : (c : tie.After-link) → ToldOf (c .before .before .before .before .before .before .before .args .e .now) (Reading.Holds (c .link .given .0 .0) (c .link .given .0 .1 .0))
-held c = told (c .before .before) _ (c .link .given .1)
+enum-told-4 : tie.Need-enum-told-4
+enum-told-4 c = search needs
 
 link-plan-requires : tie.Need-link-plan-requires
-link-plan-requires c κs =
-    let h = held (c .before) in
-    (sound EV _ (h .0) .twelve, sym (h .3), sym (ap (λ (y : Coded). said y) (h .1)))
+link-plan-requires c κs = sound EV _ (told (c .before .before) Reading.Fits (c .enum-told4 .given .1) .0) .twelve
 
 returns-2 : tie.Need-returns-2
 returns-2 c = rw (good (c .before .before .before), told (c .before .before) Reading.BadFrame (c .enum-told .given .1))
@@ -78,9 +72,9 @@ returns-4 c =
 
 returns-5 : tie.Need-returns-5
 returns-5 c =
-    let a = c .before .before .before .before .before .before .before .before .before .args in
-    let h = held (c .before .before) in
-    left (checks (a .t .now) (a .e .now) (a .room)) (a .t .now) (a .e .now) (c .link-plan .result) (rw (good (c .before .before .before .before .before), h .0, h .1, h .2)) (c .link-plan .ensures)
+    let a = c .before .before .before .before .before .before .before .before .args in
+    let h = told (c .before .before .before) Reading.Fits (c .before .enum-told4 .given .1) in
+    left (checks (a .t .now) (a .e .now) (a .room)) (a .t .now) (a .e .now) (c .link-plan .result) (rw (good (c .before .before .before .before), h .0, code-unknown _ true (h .1), h .2)) (c .link-plan .ensures)
 
 pub planned-spec : {M : Type 1} → statement M
 planned-spec =
@@ -92,7 +86,7 @@ planned-spec =
     enum-told
     enum-told-2
     enum-told-3
-    enum-known-link
+    enum-told-4
     link-plan-requires
     returns-2
     returns-3
