@@ -23,8 +23,6 @@ use Rattle.link.proofs.stepped.Kinds as stepped-kinds
 use Rattle.link.proofs.stepped.Reads as stepped
 use Rattle.link.proofs.signals.count.Kinds as count-kinds
 use Rattle.link.proofs.signals.count.Reads as count
-use Rattle.link.proofs.signals.signal_at.Kinds as signal-at-kinds
-use Rattle.link.proofs.signals.signal_at.Reads as signal-at
 
 pub fresh-one : OneAnswer fresh-kinds.ps fresh-kinds.r fresh.Post
 fresh-one κs arguments x y e f = equal
@@ -49,6 +47,3 @@ stepped-one κs arguments x y e f p q = λ i. (equal (p .0) (q .0) i, equal (p .
 
 pub count-one : OneAnswer count-kinds.ps count-kinds.r count.Post
 count-one κs arguments x y e f = equal
-
-pub signal-at-one : OneAnswer signal-at-kinds.ps signal-at-kinds.r signal-at.Post
-signal-at-one κs arguments x y e f = equal

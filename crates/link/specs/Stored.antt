@@ -1,13 +1,10 @@
 -- What the code's views, changes and answers stand for. Nothing here has to be believed: the promises of the public functions tie it to specs/Step.antt.
 use Prim.Native.Nat.{ℕ, _-_}
 use mathlib.Core.Bool.{cond}
-use mathlib.Core.List.{List, [], _∷_, map}
+use mathlib.Core.List.{List, map}
 use lib.Dec.{eqb, ltb}
-use lib.ListN.{getD}
-use Rattle.unit.specs.declared.Status.{Status}
 use Rattle.unit.specs.declared.Arrived.{Arrived}
-use Rattle.unit.specs.Unit.{code}
-use Rattle.unit.specs.Proving.{asked, table7, table8}
+use Rattle.unit.specs.Proving.{asked, table7}
 use Rattle.table6.specs.declared.Facts.{Facts}
 use Rattle.table6.specs.Summary.{over, Count, same, decided, less, Summary}
 use Rattle.table6.specs.Rows.{heading}
@@ -17,13 +14,11 @@ use Rattle.link.specs.declared.Link.{Link}
 use Rattle.link.specs.declared.Event.{Event}
 use Rattle.link.specs.declared.Event.the-variants as event
 use Rattle.link.specs.declared.View.{View}
-use Rattle.link.specs.declared.Carries.{Carries}
 use Rattle.link.specs.declared.Signal.{Signal}
 use Rattle.link.specs.declared.Said.{Said}
 use Rattle.link.specs.declared.Answer.{Answer}
-use Rattle.link.specs.declared.signals.Known.{Known}
 use Rattle.link.specs.Effect.{taken}
-use Rattle.link.specs.Signal.{none, num, signal, signalOf}
+use Rattle.link.specs.Signal.{none, signalOf}
 use Rattle.link.specs.Step.{Meeting, named, Outcome, Illegal, Legal}
 
 -- VIEWS
@@ -104,76 +99,6 @@ summedUp s field n l =
     }
 
 -- SIGNALS
-
-abbrev pub default : Known
-default = (32, 0, 0, 0, 0, 0)
-
-abbrev pub knowns : List Known
-knowns =
-    (2, 0, 0, 0, 0, 0)  -- LINK_CONGESTED
-    ∷ (8, 0, 0, 0, 0, 0)  -- BSNT
-    ∷ (16, 0, 0, 0, 0, 0)  -- ESTABLISH_REQUEST
-    ∷ (17, 0, 0, 0, 0, 0)  -- ESTABLISH_RESPONSE
-    ∷ (21, 0, 0, 0, 0, 0)  -- RETRIEVE_REQUEST
-    ∷ (34, 0, 2, 0, 8, 0)  -- REPORT_RR_UU
-    ∷ (1, 0, 0, 0, 0, 3)  -- RECEIVED_MESSAGE
-    ∷ (3, 0, 0, 0, 0, 0)  -- CONGESTION_CEASED
-    ∷ (4, 0, 0, 0, 0, 0)  -- IN
-    ∷ (5, 0, 0, 0, 0, 0)  -- OUT
-    ∷ (6, 0, 0, 0, 0, 3)  -- RETRIEVED_MESSAGES
-    ∷ (7, 0, 0, 0, 0, 0)  -- RETRIEVAL_COMPLETE
-    ∷ (9, 0, 0, 0, 0, 0)  -- BSNT_NOT_RETRIEVABLE
-    ∷ (18, 1, 0, 0, 0, 0)  -- RELEASE_OOS
-    ∷ (18, 2, 0, 0, 0, 0)  -- RELEASE_PO
-    ∷ (18, 7, 0, 0, 0, 0)  -- RELEASE_ANS
-    ∷ (18, 8, 0, 0, 0, 0)  -- RELEASE_MI
-    ∷ (18, 9, 0, 0, 0, 0)  -- RELEASE_PE
-    ∷ (18, 10, 0, 0, 0, 0)  -- RELEASE_PNS
-    ∷ (19, 0, 0, 0, 0, 1)  -- UNIT_NM
-    ∷ (19, 0, 0, 0, 0, 2)  -- UNIT_INS
-    ∷ (19, 0, 0, 0, 0, 3)  -- DATA
-    ∷ (20, 0, 0, 0, 0, 0)  -- RECOVER_RESPONSE
-    ∷ (32, 0, 0, 0, 0, 0)  -- PROVE
-    ∷ (33, 0, 0, 0, 0, 0)  -- STOP
-    ∷ (34, 0, 0, 0, 2, 0)  -- REPORT_CC
-    ∷ (34, 0, 0, 0, 3, 0)  -- REPORT_CD
-    ∷ (34, 0, 0, 0, 5, 0)  -- REPORT_SREC
-    ∷ (34, 0, 0, 0, 6, 0)  -- REPORT_UDR
-    ∷ (34, 0, 0, 0, 7, 0)  -- REPORT_PDUT
-    ∷ (34, 0, 0, 1, 0, 0)  -- REPORT_OOS
-    ∷ (34, 0, 0, 1, 1, 0)  -- REPORT_OOS_ANS
-    ∷ (34, 0, 0, 2, 0, 0)  -- REPORT_INS
-    ∷ (34, 0, 0, 3, 0, 0)  -- REPORT_ALN
-    ∷ (34, 0, 1, 0, 3, 0)  -- REPORT_LR_CD
-    ∷ (34, 0, 1, 0, 4, 0)  -- REPORT_LR_PE
-    ∷ (34, 0, 1, 1, 0, 0)  -- REPORT_LR_OOS
-    ∷ (34, 0, 1, 1, 1, 0)  -- REPORT_LR_OOS_ANS
-    ∷ (34, 0, 1, 1, 4, 0)  -- REPORT_LR_OOS_PE
-    ∷ (34, 0, 3, 0, 0, 0)  -- REPORT_SR
-    ∷ (34, 0, 3, 1, 0, 0)  -- REPORT_SR_OOS
-    ∷ (56, 0, 0, 0, 0, 0)  -- RESET_T1
-    ∷ (57, 0, 0, 0, 0, 0)  -- RESET_T2
-    ∷ (58, 0, 0, 0, 0, 0)  -- RESET_T3
-    ∷ (48, 0, 0, 0, 0, 0)  -- SET_T1
-    ∷ (49, 0, 0, 0, 0, 0)  -- SET_T2
-    ∷ (50, 0, 0, 0, 0, 0)  -- SET_T3
-    ∷ []
-
-unfoldable pub knownAt : ℕ → Known
-knownAt w = getD knowns w default
-
-abbrev pub carriesAt : ℕ → Carries
-carriesAt k = getD (Carries.Nothing ∷ Carries.Unit Status.NM ∷ Carries.Unit Status.INS ∷ []) k Carries.Message
-
-abbrev pub paramAt : ℕ → ℕ → Said → ℕ
-paramAt w known o =
-    getD (o .param ∷ known ∷ code (table8 (o .mps) (o .ups)) ∷ code (table8 (o .mps) (o .ups)) ∷ known ∷ o .param ∷ []) w known
-
-abbrev pub numAt : ℕ → Num → Said → Num
-numAt w known o = getD (known ∷ o .bsnt ∷ known ∷ known ∷ o .num ∷ []) w known
-
-abbrev pub blank : Signal
-blank = signal 0 0 none Carries.Nothing
 
 unfoldable pub signalsOf : Said → List Signal
 signalsOf o = map (signalOf (o .param) (o .num) (o .mps) (o .ups) (o .bsnt)) (said (o .words))

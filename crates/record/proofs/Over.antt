@@ -1,11 +1,12 @@
 -- Laws of octets written over others. Assumes nothing.
 use mathlib.Core.Path.{_≡_, sym, ap, _∙_}
-use mathlib.Core.List.{List, [], _++_, append-assoc, append-nil}
+use mathlib.Core.List.{List, [], _∷_, _++_, append-assoc, append-nil}
 use Prim.Native.Nat.{ℕ, suc, _+_, _-_, _≤_, _<_}
+use native.Mathlib.Nat.{zero-add, suc-add}
 use native.Mathlib.Numerals.{add-one}
 use native.Mathlib.Omega.{arith}
-use lib.ListN.{length, take, drop, getD, set, length-append, length-take, length-drop, drop-of-length-le, take-append-drop}
-use lib.Seq.{length-take-le, take-all, take-suc, drop-cons, append-snoc, set-at, take-length, take-append-seam, drop-append-seam, take-append-le, drop-append-le, take-append-add, drop-append-add, drop-at, drop-drop}
+use lib.ListN.{length, take, drop, getD, set, length-set, length-append, length-take, length-drop, drop-of-length-le, take-append-drop}
+use lib.Seq.{length-take-le, take-all, take-suc, drop-cons, append-snoc, set-at, set-append-left, take-length, take-append-seam, drop-append-seam, take-append-le, drop-append-le, take-append-add, drop-append-add, drop-at, drop-drop}
 use Rattle.record.specs.Octets.{over, putAt}
 
 -- a turn of the loop that copies, and its end
@@ -58,6 +59,20 @@ put-behind d x y a h =
 pub put-nothing : (d : List ℕ) (a : ℕ) → putAt d a [] ≡ d
 unfolding over putAt
 put-nothing d a = take-append-drop a d
+
+-- an octet stored in what was written from a on: written with it
+set-past : (p q : List ℕ) (i v : ℕ) → set (p ++ q) (length p + i) v ≡ p ++ set q i v
+set-past [] q i v = ap (λ (k : ℕ). set q k v) (zero-add i)
+set-past (x ∷ p) q i v = ap (λ (k : ℕ). set (x ∷ p ++ q) k v) (suc-add (length p) i) ∙ ap (λ (l : List ℕ). x ∷ l) (set-past p q i v)
+
+pub put-set : (d s : List ℕ) (a i v : ℕ) → a ≤ length d → i < length s → set (putAt d a s) (a + i) v ≡ putAt d a (set s i v)
+unfolding over putAt
+put-set d s a i v h g =
+    let r = drop a d in
+    ap (λ (k : ℕ). set (take a d ++ (s ++ drop (length s) r)) (k + i) v) (sym (length-take-le a d h))
+    ∙ set-past (take a d) (s ++ drop (length s) r) i v
+    ∙ ap (λ (l : List ℕ). take a d ++ l) (set-append-left s (drop (length s) r) i v g)
+    ∙ ap (λ (k : ℕ). take a d ++ (set s i v ++ drop k r)) (sym (length-set s i v))
 
 -- WHAT IS WHERE AFTERWARDS. What was written stands at its place, and past its end everything is as it was.
 pub over-front : (s d : List ℕ) → take (length s) (over s d) ≡ s

@@ -1,44 +1,97 @@
 -- Signals written one behind the other, and their records there and back. Assumes nothing.
 use mathlib.Core.Path.{_≡_, refl, sym, ap, _∙_}
 use mathlib.Core.List.{List, [], _∷_, _++_, append-assoc, append-nil}
-use Prim.Native.Nat.{ℕ, zero, suc, _+_, _-_, _*_, _≤_, _<_}
-use native.Mathlib.Nat.{add-mul}
+use Prim.Native.Nat.{ℕ, zero, suc, _+_, _-_, _*_, _^_, _/_, _%_, _≤_, _<_}
+use native.Mathlib.Nat.{add-mul, div-div-eq-div-mul}
 use native.Mathlib.Numerals.{add-one}
 use native.Mathlib.Omega.{arith}
-use lib.ListN.{length, take, drop, getD, length-append, take-append-drop}
+use lib.ListN.{length, take, drop, getD, set, length-set, length-append, take-append-drop}
+use lib.Pow.{pow-add}
 use lib.Seq.{take-suc, take-append-seam, drop-append-seam}
 use Rattle.unit.specs.Unit.{unitOf}
+use Rattle.table6.proofs.Lists.{alike}
 use Rattle.link.specs.declared.Carries.{Carries}
+use Rattle.link.specs.declared.Said.{Said}
 use Rattle.link.specs.declared.Signal.{Signal}
 use Rattle.link.specs.Kept.{messagesIn, messages}
-use Rattle.record.specs.Octets.{over, putAt}
-use Rattle.record.specs.Frame.{SG, headOf, written, lengthAt}
-use Rattle.record.specs.SignalRecord.{bodyOf, signalOctets, joined, Put, SignalReread, SignalRewritten, SignalsApart}
-use Rattle.record.proofs.Over.{lent, behind}
+use Rattle.record.specs.Octets.{at, over, putAt}
+use Rattle.record.specs.Frame.{SG, written, linkAt, lengthAt, messageOf}
+use Rattle.record.specs.SignalRecord.{bodyOf, signalOctets, joined, told, fromCode, fixedAt, Put, PutCode, SignalReread, SignalRewritten, SignalsApart}
+use Rattle.record.proofs.Over.{lent, behind, put-behind, put-set}
+use Rattle.record.proofs.LinkRecord.{high-same, low-same}
 use Rattle.record.proofs.Frame.{frame-reread, frame-rewritten, two-back, written-length}
 
-pub body-small : (c : Carries) (m : List ℕ) → length m ≤ 4096 → length (bodyOf c m) ≤ 4096
+body-small : (c : Carries) (m : List ℕ) → length m ≤ 4096 → length (bodyOf c m) ≤ 4096
 unfolding unitOf
 body-small Carries.Nothing m h = omega arith
 body-small (Carries.Unit s) m h = omega arith
 body-small Carries.Message m h = h
 
+-- ONE SIGNAL, as the code writes it
+
+-- of a word that is known beforehand nothing that the event or the link brings is told
+pub fixed-known : (o : Said) (m : List ℕ) (w : ℕ) → w < 36 → fixedAt w ≡ fromCode m (told o w)
+unfolding fixedAt
+fixed-known o m w h = alike fixedAt (λ w. fromCode m (told o w)) 36 [] refl w h
+
+-- a word that is none of the k from a on is past them
+abbrev pub MissedFrom : ℕ → ℕ → ℕ → Type 0
+MissedFrom a zero w = Unit {0}
+MissedFrom a (suc k) w = MissedFrom a k w × (w ≡ a + k → ⊥)
+
+pub missed-from : (a k w : ℕ) → a ≤ w → MissedFrom a k w → a + k ≤ w
+missed-from a zero w h m = omega arith
+missed-from a (suc k) w h m = let l : a + k ≤ w = missed-from a k w h (m .0) in omega (arith, m .1)
+
+-- eight octets are written; some are stored anew, and a message is put behind them
+module _ {s d d₁ : List ℕ} {r : ℕ} (p : PutCode s d r d₁) (h : 12 ≤ length d) where
+  pub stored : (i v : ℕ) → i < length s → PutCode (set s i v) d r (set d₁ (4 + i) v)
+  stored i v g =
+      record {
+        answer = p .answer ∙ ap (λ (n : ℕ). 4 + n) (sym (length-set s i v));
+        written = ap (λ (l : List ℕ). set l (4 + i) v) (p .written) ∙ put-set d s 4 i v (omega arith) g;
+      }
+
+  pub with-body : {d₂ : List ℕ} {r₂ : ℕ} (m : List ℕ) → d₂ ≡ putAt d₁ (4 + length s) m → r₂ ≡ r + length m → PutCode (s ++ m) d r₂ d₂
+  with-body m e n =
+      record {
+        answer = n ∙ omega (arith, p .answer, length-append s m);
+        written = e ∙ ap (λ (l : List ℕ). putAt l (4 + length s) m) (p .written) ∙ put-behind d s m 4 (omega arith);
+      }
+
+-- the length's octets of an event are those of its message
+pub length-octets : (e : List ℕ) → at e 11 < 256 → lengthAt e ≡ length (messageOf e) → (length (messageOf e) / 256 ≡ at e 10) × (length (messageOf e) % 256 ≡ at e 11)
+length-octets e b h =
+    (ap (λ (n : ℕ). n / 256) (sym h) ∙ high-same (at e 10) (at e 11) b, ap (λ (n : ℕ). n % 256) (sym h) ∙ low-same (at e 10) (at e 11) b)
+
+-- before them the mark, and the link's number as the event has it
+abbrev pub frontOf : List ℕ → List ℕ
+frontOf e = at SG 0 ∷ at SG 1 ∷ at e 2 ∷ at e 3 ∷ []
+
+pub with-front : (e m : List ℕ) (s : Signal) {d d₁ d₂ : List ℕ} {r : ℕ} → at e 3 < 256 → d₁ ≡ over (frontOf e) d → PutCode (fromCode m s) d₁ r d₂ →
+    Put (signalOctets (linkAt e) m s) d r d₂
+unfolding written
+with-front e m s {d} b f p =
+    let high = sym (high-same (at e 2) (at e 3) b) in
+    let low = sym (low-same (at e 2) (at e 3) b) in
+    record {
+      answer = p .answer ∙ omega arith;
+      written =
+          p .written
+          ∙ ap (λ (l : List ℕ). putAt l 4 (fromCode m s)) f
+          ∙ behind (frontOf e) (fromCode m s) d
+          ∙ ap (λ (l : List ℕ). over l d) (λ i. at SG 0 ∷ at SG 1 ∷ high i ∷ low i ∷ fromCode m s);
+    }
+
+-- THE WORDS OF A STEP: each turn of the writer drops one
+pub next-word : (words j : ℕ) → words / 2 ^ (j * 8 + 8) / 256 ≡ words / 2 ^ ((j + 1) * 8 + 8)
+next-word words j =
+    let e : j * 8 + 8 + 8 ≡ (j + 1) * 8 + 8 = omega arith in
+    div-div-eq-div-mul words (2 ^ (j * 8 + 8)) 256 ∙ ap (λ (n : ℕ). words / n) (sym (pow-add 2 (j * 8 + 8) 8) ∙ ap (λ (n : ℕ). 2 ^ n) e)
+
 module _ (k : ℕ) (m : List ℕ) where
   pub signal-length : (s : Signal) → length (signalOctets k m s) ≡ 12 + length (bodyOf (s .carries) m)
   signal-length s = written-length SG k (s .code) (s .param) (s .num) (bodyOf (s .carries) m)
-
-  -- a signal is written in two parts
-  pub both-parts : (s : Signal) (d d₁ d₂ : List ℕ) (n : ℕ) (h : List ℕ) → n ≡ length (bodyOf (s .carries) m) → h ≡ headOf SG k (s .code) (s .param) (s .num) n →
-      d₁ ≡ over h d → d₂ ≡ putAt d₁ 12 (bodyOf (s .carries) m) → Put (signalOctets k m s) d (12 + n) d₂
-  unfolding written
-  both-parts s d d₁ d₂ n h en eh e₁ e₂ =
-      record {
-        answer = ap (λ (j : ℕ). 12 + j) en ∙ sym (signal-length s);
-        written =
-            e₂
-            ∙ rw (e₁, eh, en)
-            (behind (headOf SG k (s .code) (s .param) (s .num) (length (bodyOf (s .carries) m))) (bodyOf (s .carries) m) d);
-      }
 
   -- THE SIGNALS OF A STEP, one behind the other
 

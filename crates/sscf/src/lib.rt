@@ -4,7 +4,6 @@ mod checks;
 use checks::Plan;
 use checks::Refusal;
 use record::RECORD;
-use record::events::message;
 use record::signals::put_all;
 use record::writing::put_at;
 ghost use mathlib.Core.Path.{_≡_};
@@ -47,7 +46,7 @@ pub extern "C" fn sscf_step(table: &mut [u8], event: &[u8], out: &mut [u8]) -> A
             // The record first: fewer values are held while the signals are written.
             let packed = record::pack(next);
             put_at(table, RECORD * link as usize, &packed);
-            let octets = put_all(out, link, said, message(event)) as u32;
+            let octets = put_all(out, said, event) as u32;
             Answer {
                 refusal: ACCEPTED,
                 octets: octets,

@@ -218,17 +218,9 @@ changed c =
 
 abbrev pub words : List Act
 words =
-    AAL-LINK-CONGESTED-indication
-    ∷ AAL-BSNT-confirm
-    ∷ AA-ESTABLISH-request
-    ∷ AA-ESTABLISH-response
-    ∷ AA-RETRIEVE-request
-    ∷ MAAL-REPORT-indication RR – SSCOP-UU
-    ∷ AAL-RECEIVED-MESSAGE-indication
-    ∷ AAL-LINK-CONGESTION-CEASED-indication
+    AAL-LINK-CONGESTION-CEASED-indication
     ∷ AAL-IN-SERVICE-indication
     ∷ AAL-OUT-OF-SERVICE-indication
-    ∷ AAL-RETRIEVED-MESSAGES-indication
     ∷ AAL-RETRIEVAL-COMPLETE-indication
     ∷ AAL-BSNT-NOT-RETRIEVABLE-confirm
     ∷ AA-RELEASE-request OOS
@@ -237,9 +229,6 @@ words =
     ∷ AA-RELEASE-request MI
     ∷ AA-RELEASE-request PE
     ∷ AA-RELEASE-request PNS
-    ∷ AA-DATA-request NM
-    ∷ AA-DATA-request INS
-    ∷ AA-DATA-request Parameter-Data
     ∷ AA-RECOVER-response
     ∷ MAAL-PROVING-indication
     ∷ MAAL-STOP-PROVING-indication
@@ -265,6 +254,17 @@ words =
     ∷ Set T1
     ∷ Set T2
     ∷ Set T3
+    ∷ AAL-LINK-CONGESTED-indication
+    ∷ AAL-BSNT-confirm
+    ∷ AA-ESTABLISH-request
+    ∷ AA-ESTABLISH-response
+    ∷ AA-RETRIEVE-request
+    ∷ MAAL-REPORT-indication RR – SSCOP-UU
+    ∷ AAL-RECEIVED-MESSAGE-indication
+    ∷ AAL-RETRIEVED-MESSAGES-indication
+    ∷ AA-DATA-request Parameter-Data
+    ∷ AA-DATA-request NM
+    ∷ AA-DATA-request INS
     ∷ []
 
 abbrev pub wordAt : ℕ → Act
@@ -280,75 +280,75 @@ packed ws = length ws + 256 * octets ws
 
 abbrev pub sayings : List ℕ
 sayings =
-    packed (21 ∷ 29 ∷ [])  -- MESSAGE
+    packed (44 ∷ 18 ∷ [])  -- MESSAGE
     ∷ packed ([])  -- EMERGENCY
     ∷ packed ([])  -- EMERGENCY_CEASES
-    ∷ packed (30 ∷ 41 ∷ 42 ∷ [])  -- STOP_212
-    ∷ packed (13 ∷ 30 ∷ 42 ∷ [])  -- STOP_222
-    ∷ packed (30 ∷ 42 ∷ [])  -- STOP_242
-    ∷ packed (13 ∷ 36 ∷ 24 ∷ 42 ∷ 43 ∷ [])  -- STOP_2103
-    ∷ packed (13 ∷ 36 ∷ 42 ∷ [])  -- STOP_2104
-    ∷ packed (13 ∷ 36 ∷ [])  -- STOP_3105
-    ∷ packed (2 ∷ 33 ∷ 45 ∷ [])  -- START
-    ∷ packed (1 ∷ [])  -- BSNT_KNOWN
-    ∷ packed (12 ∷ [])  -- BSNT_UNKNOWN
-    ∷ packed (4 ∷ [])  -- RETRIEVAL
+    ∷ packed (19 ∷ 30 ∷ 31 ∷ [])  -- STOP_212
+    ∷ packed (5 ∷ 19 ∷ 31 ∷ [])  -- STOP_222
+    ∷ packed (19 ∷ 31 ∷ [])  -- STOP_242
+    ∷ packed (5 ∷ 25 ∷ 13 ∷ 31 ∷ 32 ∷ [])  -- STOP_2103
+    ∷ packed (5 ∷ 25 ∷ 31 ∷ [])  -- STOP_2104
+    ∷ packed (5 ∷ 25 ∷ [])  -- STOP_3105
+    ∷ packed (38 ∷ 22 ∷ 34 ∷ [])  -- START
+    ∷ packed (37 ∷ [])  -- BSNT_KNOWN
+    ∷ packed (4 ∷ [])  -- BSNT_UNKNOWN
+    ∷ packed (40 ∷ [])  -- RETRIEVAL
     ∷ packed ([])  -- IGNORED
-    ∷ packed (13 ∷ [])  -- REFUSED_OOS
-    ∷ packed (14 ∷ [])  -- REFUSED_PO
-    ∷ packed (3 ∷ 23 ∷ 41 ∷ 46 ∷ [])  -- RESPONDED
-    ∷ packed (17 ∷ 35 ∷ [])  -- REFUSED_PE
-    ∷ packed (23 ∷ 46 ∷ [])  -- CONFIRMED
-    ∷ packed (17 ∷ 35 ∷ [])  -- CONFIRMED_PE
-    ∷ packed (5 ∷ 44 ∷ [])  -- RELEASED
-    ∷ packed (39 ∷ 44 ∷ [])  -- RELEASED_SSCOP
-    ∷ packed (5 ∷ 24 ∷ 43 ∷ 44 ∷ [])  -- RELEASED_2103
-    ∷ packed (39 ∷ 24 ∷ 43 ∷ 44 ∷ [])  -- RELEASED_SSCOP_2103
-    ∷ packed (9 ∷ 5 ∷ [])  -- RELEASED_3105
-    ∷ packed (9 ∷ 40 ∷ [])  -- RELEASED_SSCOP_3105
+    ∷ packed (5 ∷ [])  -- REFUSED_OOS
+    ∷ packed (6 ∷ [])  -- REFUSED_PO
+    ∷ packed (39 ∷ 12 ∷ 30 ∷ 35 ∷ [])  -- RESPONDED
+    ∷ packed (9 ∷ 24 ∷ [])  -- REFUSED_PE
+    ∷ packed (12 ∷ 35 ∷ [])  -- CONFIRMED
+    ∷ packed (9 ∷ 24 ∷ [])  -- CONFIRMED_PE
+    ∷ packed (41 ∷ 33 ∷ [])  -- RELEASED
+    ∷ packed (28 ∷ 33 ∷ [])  -- RELEASED_SSCOP
+    ∷ packed (41 ∷ 13 ∷ 32 ∷ 33 ∷ [])  -- RELEASED_2103
+    ∷ packed (28 ∷ 13 ∷ 32 ∷ 33 ∷ [])  -- RELEASED_SSCOP_2103
+    ∷ packed (2 ∷ 41 ∷ [])  -- RELEASED_3105
+    ∷ packed (2 ∷ 29 ∷ [])  -- RELEASED_SSCOP_3105
     ∷ packed ([])  -- RELEASE_CONFIRMED_141
-    ∷ packed (44 ∷ [])  -- RELEASE_CONFIRMED_242
+    ∷ packed (33 ∷ [])  -- RELEASE_CONFIRMED_242
     ∷ packed ([])  -- INS_2103
-    ∷ packed (8 ∷ 32 ∷ 42 ∷ [])  -- INS_2104
-    ∷ packed (17 ∷ 9 ∷ 38 ∷ [])  -- UNIT_3105
+    ∷ packed (1 ∷ 21 ∷ 31 ∷ [])  -- INS_2104
+    ∷ packed (9 ∷ 2 ∷ 27 ∷ [])  -- UNIT_3105
     ∷ packed ([])  -- UNIT_TAKEN
-    ∷ packed (35 ∷ 17 ∷ 24 ∷ 43 ∷ [])  -- LONG_2103
-    ∷ packed (17 ∷ 35 ∷ [])  -- LONG_2104
-    ∷ packed (6 ∷ [])  -- LONG_3105
-    ∷ packed (35 ∷ 17 ∷ 24 ∷ 43 ∷ [])  -- RESYNC_2103
-    ∷ packed (35 ∷ 17 ∷ [])  -- RESYNC_2104
-    ∷ packed (17 ∷ 9 ∷ 38 ∷ [])  -- RESYNC_3105
-    ∷ packed (22 ∷ 27 ∷ [])  -- RECOVER
-    ∷ packed (28 ∷ [])  -- UNITDATA
-    ∷ packed (10 ∷ [])  -- RETRIEVED
-    ∷ packed (11 ∷ [])  -- RETRIEVE_COMPLETE
-    ∷ packed (18 ∷ 43 ∷ [])  -- PROVING_UNSUCCESSFUL
-    ∷ packed (9 ∷ 41 ∷ 42 ∷ [])  -- RELEASE_212
-    ∷ packed (16 ∷ 9 ∷ 42 ∷ [])  -- RELEASE_222
-    ∷ packed (9 ∷ 42 ∷ [])  -- RELEASE_242
-    ∷ packed (16 ∷ 9 ∷ 42 ∷ 43 ∷ [])  -- RELEASE_2103
-    ∷ packed (16 ∷ 9 ∷ [])  -- RELEASE_3105
+    ∷ packed (24 ∷ 9 ∷ 13 ∷ 32 ∷ [])  -- LONG_2103
+    ∷ packed (9 ∷ 24 ∷ [])  -- LONG_2104
+    ∷ packed (42 ∷ [])  -- LONG_3105
+    ∷ packed (24 ∷ 9 ∷ 13 ∷ 32 ∷ [])  -- RESYNC_2103
+    ∷ packed (24 ∷ 9 ∷ [])  -- RESYNC_2104
+    ∷ packed (9 ∷ 2 ∷ 27 ∷ [])  -- RESYNC_3105
+    ∷ packed (11 ∷ 16 ∷ [])  -- RECOVER
+    ∷ packed (17 ∷ [])  -- UNITDATA
+    ∷ packed (43 ∷ [])  -- RETRIEVED
+    ∷ packed (3 ∷ [])  -- RETRIEVE_COMPLETE
+    ∷ packed (10 ∷ 32 ∷ [])  -- PROVING_UNSUCCESSFUL
+    ∷ packed (2 ∷ 30 ∷ 31 ∷ [])  -- RELEASE_212
+    ∷ packed (8 ∷ 2 ∷ 31 ∷ [])  -- RELEASE_222
+    ∷ packed (2 ∷ 31 ∷ [])  -- RELEASE_242
+    ∷ packed (8 ∷ 2 ∷ 31 ∷ 32 ∷ [])  -- RELEASE_2103
+    ∷ packed (8 ∷ 2 ∷ [])  -- RELEASE_3105
     ∷ packed ([])  -- OUTAGE
-    ∷ packed (14 ∷ 9 ∷ 42 ∷ [])  -- OUTAGE_2104
-    ∷ packed (14 ∷ 9 ∷ [])  -- OUTAGE_3105
+    ∷ packed (6 ∷ 2 ∷ 31 ∷ [])  -- OUTAGE_2104
+    ∷ packed (6 ∷ 2 ∷ [])  -- OUTAGE_3105
     ∷ packed ([])  -- RECOVERED
     ∷ packed ([])  -- FORCE_PROVING
     ∷ packed ([])  -- FORCE_EMERGENCY
     ∷ packed ([])  -- CLEAR_FORCE_MODES
-    ∷ packed (18 ∷ 34 ∷ 24 ∷ 43 ∷ [])  -- CONGESTION_2103
-    ∷ packed (0 ∷ 26 ∷ [])  -- CONGESTION
-    ∷ packed (25 ∷ [])  -- CEASED_242
-    ∷ packed (7 ∷ 25 ∷ [])  -- CEASED
-    ∷ packed (2 ∷ [])  -- T1_212
-    ∷ packed (9 ∷ 37 ∷ 41 ∷ [])  -- T2_212
-    ∷ packed (15 ∷ 9 ∷ 37 ∷ [])  -- T2_222
-    ∷ packed (9 ∷ 31 ∷ [])  -- T2_242
-    ∷ packed (37 ∷ 24 ∷ 9 ∷ 15 ∷ 43 ∷ [])  -- T2_2103
-    ∷ packed (37 ∷ 9 ∷ 15 ∷ [])  -- T2_2104
-    ∷ packed (19 ∷ 46 ∷ [])  -- T3_PROVING
-    ∷ packed (24 ∷ 20 ∷ [])  -- T3_ALIGNED
-    ∷ packed (24 ∷ 20 ∷ 32 ∷ 8 ∷ 42 ∷ [])  -- T3_IN_SERVICE
-    ∷ packed (14 ∷ 9 ∷ 36 ∷ 24 ∷ 42 ∷ [])  -- T3_OUTAGE
+    ∷ packed (10 ∷ 23 ∷ 13 ∷ 32 ∷ [])  -- CONGESTION_2103
+    ∷ packed (36 ∷ 15 ∷ [])  -- CONGESTION
+    ∷ packed (14 ∷ [])  -- CEASED_242
+    ∷ packed (0 ∷ 14 ∷ [])  -- CEASED
+    ∷ packed (38 ∷ [])  -- T1_212
+    ∷ packed (2 ∷ 26 ∷ 30 ∷ [])  -- T2_212
+    ∷ packed (7 ∷ 2 ∷ 26 ∷ [])  -- T2_222
+    ∷ packed (2 ∷ 20 ∷ [])  -- T2_242
+    ∷ packed (26 ∷ 13 ∷ 2 ∷ 7 ∷ 32 ∷ [])  -- T2_2103
+    ∷ packed (26 ∷ 2 ∷ 7 ∷ [])  -- T2_2104
+    ∷ packed (45 ∷ 35 ∷ [])  -- T3_PROVING
+    ∷ packed (13 ∷ 46 ∷ [])  -- T3_ALIGNED
+    ∷ packed (13 ∷ 46 ∷ 21 ∷ 1 ∷ 31 ∷ [])  -- T3_IN_SERVICE
+    ∷ packed (6 ∷ 2 ∷ 25 ∷ 13 ∷ 31 ∷ [])  -- T3_OUTAGE
     ∷ []
 
 unfoldable pub saysAt : ℕ → ℕ

@@ -62,100 +62,103 @@ pub struct Change(
     pub u8,
 );
 
-// The signals that the table uses. The first six carry what the event or the link brings.
-pub const LINK_CONGESTED: u8 = 0;
+// The signals that the table uses. First those that are known beforehand.
+pub const CONGESTION_CEASED: u8 = 0;
 
-pub const BSNT: u8 = 1;
+pub const IN: u8 = 1;
 
-pub const ESTABLISH_REQUEST: u8 = 2;
+pub const OUT: u8 = 2;
 
-pub const ESTABLISH_RESPONSE: u8 = 3;
+pub const RETRIEVAL_COMPLETE: u8 = 3;
 
-pub const RETRIEVE_REQUEST: u8 = 4;
+pub const BSNT_NOT_RETRIEVABLE: u8 = 4;
 
-pub const REPORT_RR_UU: u8 = 5;
+pub const RELEASE_OOS: u8 = 5;
 
-pub const RECEIVED_MESSAGE: u8 = 6;
+pub const RELEASE_PO: u8 = 6;
 
-pub const CONGESTION_CEASED: u8 = 7;
+pub const RELEASE_ANS: u8 = 7;
 
-pub const IN: u8 = 8;
+pub const RELEASE_MI: u8 = 8;
 
-pub const OUT: u8 = 9;
+pub const RELEASE_PE: u8 = 9;
 
-pub const RETRIEVED_MESSAGES: u8 = 10;
+pub const RELEASE_PNS: u8 = 10;
 
-pub const RETRIEVAL_COMPLETE: u8 = 11;
+pub const RECOVER_RESPONSE: u8 = 11;
 
-pub const BSNT_NOT_RETRIEVABLE: u8 = 12;
+pub const PROVE: u8 = 12;
 
-pub const RELEASE_OOS: u8 = 13;
+pub const STOP: u8 = 13;
 
-pub const RELEASE_PO: u8 = 14;
+pub const REPORT_CC: u8 = 14;
 
-pub const RELEASE_ANS: u8 = 15;
+pub const REPORT_CD: u8 = 15;
 
-pub const RELEASE_MI: u8 = 16;
+pub const REPORT_SREC: u8 = 16;
 
-pub const RELEASE_PE: u8 = 17;
+pub const REPORT_UDR: u8 = 17;
 
-pub const RELEASE_PNS: u8 = 18;
+pub const REPORT_PDUT: u8 = 18;
 
-pub const UNIT_NM: u8 = 19;
+pub const REPORT_OOS: u8 = 19;
 
-pub const UNIT_INS: u8 = 20;
+pub const REPORT_OOS_ANS: u8 = 20;
 
-pub const DATA: u8 = 21;
+pub const REPORT_INS: u8 = 21;
 
-pub const RECOVER_RESPONSE: u8 = 22;
+pub const REPORT_ALN: u8 = 22;
 
-pub const PROVE: u8 = 23;
+pub const REPORT_LR_CD: u8 = 23;
 
-pub const STOP: u8 = 24;
+pub const REPORT_LR_PE: u8 = 24;
 
-pub const REPORT_CC: u8 = 25;
+pub const REPORT_LR_OOS: u8 = 25;
 
-pub const REPORT_CD: u8 = 26;
+pub const REPORT_LR_OOS_ANS: u8 = 26;
 
-pub const REPORT_SREC: u8 = 27;
+pub const REPORT_LR_OOS_PE: u8 = 27;
 
-pub const REPORT_UDR: u8 = 28;
+pub const REPORT_SR: u8 = 28;
 
-pub const REPORT_PDUT: u8 = 29;
+pub const REPORT_SR_OOS: u8 = 29;
 
-pub const REPORT_OOS: u8 = 30;
+pub const RESET_T1: u8 = 30;
 
-pub const REPORT_OOS_ANS: u8 = 31;
+pub const RESET_T2: u8 = 31;
 
-pub const REPORT_INS: u8 = 32;
+pub const RESET_T3: u8 = 32;
 
-pub const REPORT_ALN: u8 = 33;
+pub const SET_T1: u8 = 33;
 
-pub const REPORT_LR_CD: u8 = 34;
+pub const SET_T2: u8 = 34;
 
-pub const REPORT_LR_PE: u8 = 35;
+pub const SET_T3: u8 = 35;
 
-pub const REPORT_LR_OOS: u8 = 36;
+// From here on a signal carries what the event or the link brings.
+pub const CARRYING: u8 = 36;
 
-pub const REPORT_LR_OOS_ANS: u8 = 37;
+pub const LINK_CONGESTED: u8 = 36;
 
-pub const REPORT_LR_OOS_PE: u8 = 38;
+pub const BSNT: u8 = 37;
 
-pub const REPORT_SR: u8 = 39;
+pub const ESTABLISH_REQUEST: u8 = 38;
 
-pub const REPORT_SR_OOS: u8 = 40;
+pub const ESTABLISH_RESPONSE: u8 = 39;
 
-pub const RESET_T1: u8 = 41;
+pub const RETRIEVE_REQUEST: u8 = 40;
 
-pub const RESET_T2: u8 = 42;
+pub const REPORT_RR_UU: u8 = 41;
 
-pub const RESET_T3: u8 = 43;
+pub const RECEIVED_MESSAGE: u8 = 42;
 
-pub const SET_T1: u8 = 44;
+pub const RETRIEVED_MESSAGES: u8 = 43;
 
-pub const SET_T2: u8 = 45;
+pub const DATA: u8 = 44;
 
-pub const SET_T3: u8 = 46;
+pub const UNIT_NM: u8 = 45;
+
+pub const UNIT_INS: u8 = 46;
 
 // The signals of a code as one number: how many in its lowest octet, and then each in an octet, the first lowest.
 fn say0() -> u64

@@ -8,11 +8,11 @@ use borrow.Author.Needs.{needs}
 use Rattle.link.specs.declared.Link.{Link}
 use Rattle.link.specs.declared.Signal.{Signal}
 use Rattle.link.specs.Stored.{signalsOf}
-use Rattle.record.specs.Octets.{over, putAt}
+use Rattle.record.specs.Octets.{putAt}
 use Rattle.record.specs.LinkRecord.{recordOctets, octetsOf}
 use Rattle.record.specs.Frame.{EV, linkAt, messageOf}
 use Rattle.record.specs.SignalRecord.{joined}
-use Rattle.record.proofs.Frame.{sound}
+use Rattle.record.proofs.Frame.{sound, message-length}
 use Rattle.sscf.specs.declared.checks.Plan.{Plan}
 use Rattle.sscf.specs.Step.{checks, answered, answering}
 use Rattle.sscf.specs.Plan.{Planned}
@@ -46,12 +46,9 @@ go c = rw (c .link .given .1) at (c .before .before .planned .ensures)
 tk : (c : tie.After-link) → Taken (T c) (E c) (length (O c))
 tk c = taken (T c) (E c) (length (O c)) (go c .0)
 
--- the octets of the signals, as the writer has them
-same-octets : (c : tie.After-link) {m : List ℕ} → m ≡ messageOf (E c) → joined (K c) m (S c) ≡ joined (linkAt (E c)) (messageOf (E c)) (S c)
-same-octets c e = λ i. joined (go c .1 i) (e i) (S c)
-
-fits : (c : tie.After-link) {m : List ℕ} → m ≡ messageOf (E c) → length (joined (K c) m (S c)) ≤ 4192
-fits c e = omega (arith, ap length (same-octets c e), room-for (T c) (E c) (tk c .sound) (go c .2))
+-- the signals have room
+fits : (c : tie.After-link) → length (joined (linkAt (E c)) (messageOf (E c)) (S c)) ≤ 4192
+fits c = room-for (T c) (E c) (tk c .sound) (go c .2)
 
 planned-requires : tie.Need-planned-requires
 planned-requires c κs = search needs
@@ -82,22 +79,20 @@ put-at-requires c κs =
     let l = c .before .before .before .before in
     omega (arith, go l .1, inside (T l) (linkAt (E l)) (tk l .inside), ap length (c .before .before .pack .ensures))
 
-message-requires : tie.Need-message-requires
-message-requires c κs = sound EV _ (tk (c .before .before .before .before .before .before .before .before) .sound) .twelve
-
 put-all-requires : tie.Need-put-all-requires
 put-all-requires c κs =
-    let l = c .before .before .before .before .before .before .before .before .before in
-    (omega (arith, fits l (c .message .ensures), tk l .wide), omega (arith, ap length (c .message .ensures), message-small (E l) (tk l .sound)))
+    let l = c .before .before .before .before .before .before .before .before in
+    let f = tk l .sound in
+    (sound EV _ f .twelve, sym (message-length EV (E l) f), message-small (E l) f, omega (arith, fits l, tk l .wide))
 
 cast-octets : tie.Need-cast-octets
-cast-octets c = omega (arith, c .before .before .put-all .ensures .answer, fits (c .before .before .before .before .before .before .before .before .before .before .before .before) (c .before .before .before .message .ensures))
+cast-octets c = omega (arith, c .before .before .put-all .ensures .answer, fits (c .before .before .before .before .before .before .before .before .before .before .before))
 
 count-requires : tie.Need-count-requires
 count-requires c κs = search needs
 
-cast-t27 : tie.Need-cast-t27
-cast-t27 c = search needs
+cast-t26 : tie.Need-cast-t26
+cast-t26 c = search needs
 
 same-length : tie.Need-same-length
 same-length c = search needs
@@ -117,14 +112,11 @@ same-length-3 c = search needs
 
 returns-2 : tie.Need-returns-2
 returns-2 c =
-    let l = c .before .before .before .before .before .before .before .before .before .before .before .before .before in
-    let w = same-octets l (c .before .before .before .before .message .ensures) in
+    let l = c .before .before .before .before .before .before .before .before .before .before .before .before in
     let p = c .before .before .before .put-all .ensures in
-    let en = p .answer ∙ ap length w in
-    let eo = p .written ∙ ap (λ (j : List ℕ). over j (O l)) w in
-    let et : c .before .before .before .before .before .before .before .before .put-at .last .0 ≡ putAt (T l) (recordOctets * linkAt (E l)) (octetsOf (N l)) =
-    c .before .before .before .before .before .before .before .before .put-at .ensures ∙ (λ i. putAt (T l) (recordOctets * go l .1 i) (c .before .before .before .before .before .before .before .before .before .before .before .pack .ensures i)) in
-    (λ i. answering (answered 0 (en i) (c .count .ensures i)) (et i) (eo i)) ∙ sym (step-accepted (T l) (E l) (O l) (go l .0) (go l .2))
+    let et : c .before .before .before .before .before .before .before .put-at .last .0 ≡ putAt (T l) (recordOctets * linkAt (E l)) (octetsOf (N l)) =
+    c .before .before .before .before .before .before .before .put-at .ensures ∙ (λ i. putAt (T l) (recordOctets * go l .1 i) (c .before .before .before .before .before .before .before .before .before .before .pack .ensures i)) in
+    (λ i. answering (answered 0 (p .answer i) (c .count .ensures i)) (et i) (p .written i)) ∙ sym (step-accepted (T l) (E l) (O l) (go l .0) (go l .2))
 
 pub sscf-step-spec : {M : Type 1} → statement M
 sscf-step-spec =
@@ -139,11 +131,10 @@ sscf-step-spec =
     mul-put-at
     slice-aggregate-put-at
     put-at-requires
-    message-requires
     put-all-requires
     cast-octets
     count-requires
-    cast-t27
+    cast-t26
     same-length
     returns
     same-length-2

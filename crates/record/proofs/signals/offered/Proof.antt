@@ -1,9 +1,9 @@
--- `link::signals::offered` meets its contract. Assumes nothing.
+-- `signals::offered` meets its contract. Assumes nothing.
 use borrow.Author.Needs.{needs}
 use mathlib.Core.Path.{ap, _∙_}
 use Rattle.unit.specs.Unit.{code}
-use Rattle.link.proofs.signals.offered.Statement.{statement}
-use Rattle.link.proofs.signals.offered.Tie as tie
+use Rattle.record.proofs.signals.offered.Statement.{statement}
+use Rattle.record.proofs.signals.offered.Tie as tie
 
 sscop-uu-requires : tie.Need-sscop-uu-requires
 sscop-uu-requires c κs = search needs
