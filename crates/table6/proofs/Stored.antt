@@ -2,17 +2,18 @@
 use mathlib.Core.Path.{_≡_, refl, sym, ap, _∙_}
 use mathlib.Core.Bool.{Bool, true, false, cond}
 use mathlib.Core.List.{List, [], _∷_, _++_, append-assoc}
-use Prim.Native.Nat.{ℕ, _+_, _*_, _<_, _≤_}
-use lib.Dec.{eqb, ltb, leb}
+use Prim.Native.Nat.{ℕ, _<_, _≤_}
+use lib.Dec.{eqb, ltb}
 use lib.ListN.{getD}
 use borrow.Author.Tests.{eqb-true, ltb-true, ltb-false}
 use Rattle.table6.specs.declared.State.{State}
 use Rattle.table6.specs.declared.Facts.{Facts}
+use Rattle.table6.specs.declared.Met.{Met}
 use Rattle.table6.specs.Cell.{Act, Cond, LPO=0, LPO=0&INS=0, LPO=0&INS=1, UU=EM-or-NM, Source=User, BSNT-available, MU>4, holds, Cell, Illegal, to, _⨟_, IF_THEN_ELSE_, Row, cell, Choice, illegal, does, after, chosen}
-use Rattle.table6.specs.Summary.{Summed, refused, summed, sum, over}
+use Rattle.table6.specs.Summary.{Summed, refused, sum}
 use Rattle.table6.specs.Table6.{AAL-MESSAGE-FOR-TRANSMISSION-request, AAL-EMERGENCY-request, AAL-EMERGENCY-CEASES-request, AAL-STOP-request, AAL-START-request, AAL-RETRIEVE-BSNT-request, AAL-RETRIEVAL-REQUEST-AND-FSNC-request, AAL-FLUSH-BUFFERS-request, AAL-CONTINUE-request, AA-ESTABLISH-indication-with-EM-NM, AA-ESTABLISH-indication-with-others, AA-ESTABLISH-confirm-with-EM-NM, AA-ESTABLISH-confirm-with-others, AA-RELEASE-indication-from-User, AA-RELEASE-indication-from-SSCOP, AA-RELEASE-confirm, AA-DATA-indication-with-INS, AA-DATA-indication-with-NM, AA-DATA-indication-with-other, AA-DATA-indication-with-MU>4, AA-RESYNC-indication, AA-RECOVER-indication, AA-UNITDATA-indication, AA-RETRIEVE-indication, AA-RETRIEVE-COMPLETE-indication, MAAL-PROVING-UNSUCCESSFUL-response, MAAL-RELEASE-request, MAAL-LOCAL-PROCESSOR-OUTAGE-request, MAAL-LOCAL-PROCESSOR-RECOVERED-request, MAAL-FORCE-PROVING-request, MAAL-FORCE-EMERGENCY-request, MAAL-CLEAR-FORCE-MODES-request, Local-Congestion, Local-Congestion-Ceased, T1-expires, T2-expires, T3-expires-and-C1>0, T3-expires-and-C1=0}
 use Rattle.table6.specs.Rows.{Printed, one, two, printed, rows, nowhere, heading}
-use Rattle.table6.specs.Stored.{place, codes, codeAt, Ask, gives, asks, follow, questions, among, answer, changeAt, saysAt, changed, said, stateOp, from, meets, met}
+use Rattle.table6.specs.Stored.{place, codes, no-row, rowOf, codeAt, packed, Ask, refuses, gives, asks, follow, askAt, from, meets, met, metAs}
 use Rattle.table6.proofs.Lists.{alike, past}
 
 -- Conditions by number, as the ways below have them; 0 always holds.
@@ -59,21 +60,20 @@ taken (when q w v) f = cond (test q f) (taken w f) (taken v f)
 
 -- THE STORED SIDE
 
-abbrev pub codeSum : State → ℕ → Summed
-codeSum s c = cond (leb 78 c) refused (summed (changed (changeAt c)) (said (saysAt c)) (over (stateOp (changeAt c .0)) s))
-
 abbrev asked-way : State → Ask → Way
-asked-way s (gives c) = only (codeSum s c)
+asked-way s refuses = only refused
+asked-way s (gives c ws) = only (metAs s (Met.Does c (packed ws)))
 asked-way s (asks q y n) = when (number q) (asked-way s y) (asked-way s n)
 
-by-answer : (b : Bool) (g : ℕ → Summed) (y n : ℕ) (w v : Summed) → w ≡ g y → v ≡ g n → cond b w v ≡ g (cond b y n)
-by-answer true g y n w v p q = p
-by-answer false g y n w v p q = q
+by-answer : (b : Bool) (s : State) (y n : Met) (w v : Summed) → w ≡ metAs s y → v ≡ metAs s n → cond b w v ≡ metAs s (cond b y n)
+by-answer true s y n w v p q = p
+by-answer false s y n w v p q = q
 
-stored-way : (s : State) (a : Ask) (f : Facts) → taken (asked-way s a) f ≡ codeSum s (follow f a)
-stored-way s (gives c) f = refl
+stored-way : (s : State) (a : Ask) (f : Facts) → taken (asked-way s a) f ≡ metAs s (follow f a)
+stored-way s refuses f = refl
+stored-way s (gives c ws) f = refl
 stored-way s (asks q y n) f =
-    rw (numbered q f) (by-answer (holds q f) (codeSum s) (follow f y) (follow f n) _ _ (stored-way s y f) (stored-way s n f))
+    rw (numbered q f) (by-answer (holds q f) s (follow f y) (follow f n) _ _ (stored-way s y f) (stored-way s n f))
 
 -- what is left of a way once an answer is known
 abbrev given : ℕ → Bool → Way → Way
@@ -141,13 +141,13 @@ abbrev eight : (State → Way) → List Way
 eight g = g State.S111 ∷ g State.S141 ∷ g State.S212 ∷ g State.S222 ∷ g State.S242 ∷ g State.S2103 ∷ g State.S2104 ∷ g State.S3105 ∷ []
 
 abbrev storedCell : Bool → ℕ → State → Way
-storedCell b row s = given (asked (heading row .row)) b (asked-way s (among (getD codes (row * 8 + place s) 0) questions))
+storedCell b row s = given (asked (heading row .row)) b (asked-way s (askAt (codeAt row s)))
 
 abbrev paperCell : Bool → ℕ → State → Way
 paperCell b row s = way (heading row .arrives) [] (cell (printedIf b (heading row .row)) s)
 
 all-cells : (b : Bool) → from (λ row. eight (storedCell b row)) 0 35 ≡ from (λ row. eight (paperCell b row)) 0 35
-unfolding changeAt saysAt AAL-MESSAGE-FOR-TRANSMISSION-request AAL-EMERGENCY-request AAL-EMERGENCY-CEASES-request AAL-STOP-request AAL-START-request AAL-RETRIEVE-BSNT-request AAL-RETRIEVAL-REQUEST-AND-FSNC-request AAL-FLUSH-BUFFERS-request AAL-CONTINUE-request AA-ESTABLISH-indication-with-EM-NM AA-ESTABLISH-indication-with-others AA-ESTABLISH-confirm-with-EM-NM AA-ESTABLISH-confirm-with-others AA-RELEASE-indication-from-User AA-RELEASE-indication-from-SSCOP AA-RELEASE-confirm AA-DATA-indication-with-INS AA-DATA-indication-with-NM AA-DATA-indication-with-other AA-DATA-indication-with-MU>4 AA-RESYNC-indication AA-RECOVER-indication AA-UNITDATA-indication AA-RETRIEVE-indication AA-RETRIEVE-COMPLETE-indication MAAL-PROVING-UNSUCCESSFUL-response MAAL-RELEASE-request MAAL-LOCAL-PROCESSOR-OUTAGE-request MAAL-LOCAL-PROCESSOR-RECOVERED-request MAAL-FORCE-PROVING-request MAAL-FORCE-EMERGENCY-request MAAL-CLEAR-FORCE-MODES-request Local-Congestion Local-Congestion-Ceased T1-expires T2-expires T3-expires-and-C1>0 T3-expires-and-C1=0
+unfolding rowOf codeAt askAt AAL-MESSAGE-FOR-TRANSMISSION-request AAL-EMERGENCY-request AAL-EMERGENCY-CEASES-request AAL-STOP-request AAL-START-request AAL-RETRIEVE-BSNT-request AAL-RETRIEVAL-REQUEST-AND-FSNC-request AAL-FLUSH-BUFFERS-request AAL-CONTINUE-request AA-ESTABLISH-indication-with-EM-NM AA-ESTABLISH-indication-with-others AA-ESTABLISH-confirm-with-EM-NM AA-ESTABLISH-confirm-with-others AA-RELEASE-indication-from-User AA-RELEASE-indication-from-SSCOP AA-RELEASE-confirm AA-DATA-indication-with-INS AA-DATA-indication-with-NM AA-DATA-indication-with-other AA-DATA-indication-with-MU>4 AA-RESYNC-indication AA-RECOVER-indication AA-UNITDATA-indication AA-RETRIEVE-indication AA-RETRIEVE-COMPLETE-indication MAAL-PROVING-UNSUCCESSFUL-response MAAL-RELEASE-request MAAL-LOCAL-PROCESSOR-OUTAGE-request MAAL-LOCAL-PROCESSOR-RECOVERED-request MAAL-FORCE-PROVING-request MAAL-FORCE-EMERGENCY-request MAAL-CLEAR-FORCE-MODES-request Local-Congestion Local-Congestion-Ceased T1-expires T2-expires T3-expires-and-C1>0 T3-expires-and-C1=0
 all-cells true = refl
 all-cells false = refl
 
@@ -178,10 +178,9 @@ printed-by : (p : Printed) (f : Facts) → printedIf (test (asked p) f) p ≡ pr
 printed-by (one r) f = refl
 printed-by (two q r s) f = rw (numbered q f) (picked (holds q f) q r s)
 
-inside : (row : ℕ) (s : State) (f : Facts) → row < 35 → codeSum s (answer f (getD codes (row * 8 + place s) 0)) ≡ meets (heading row) s f
-unfolding answer
+inside : (row : ℕ) (s : State) (f : Facts) → row < 35 → metAs s (follow f (askAt (codeAt row s))) ≡ meets (heading row) s f
 inside row s f h =
-    let a : Ask = among (getD codes (row * 8 + place s) 0) questions in
+    let a : Ask = askAt (codeAt row s) in
     let p : Printed = heading row .row in
     let q : ℕ = asked p in
     sym (stored-way s a f)
@@ -190,7 +189,8 @@ inside row s f h =
     ∙ paper-way (heading row .arrives) [] (cell (printedIf (test q f) p) s) f
     ∙ ap (sum (heading row .arrives)) (from-start (chosen f (cell (printedIf (test q f) p) s)) ∙ ap (λ (r : Row). chosen f (cell r s)) (printed-by p f))
 
-no-cell : (s : State) (f : Facts) → refused ≡ meets nowhere s f
+no-cell : (s : State) (f : Facts) → metAs s (follow f (askAt (getD no-row (place s) 0))) ≡ meets nowhere s f
+unfolding askAt
 no-cell State.S111 f = refl
 no-cell State.S141 f = refl
 no-cell State.S212 f = refl
@@ -200,15 +200,14 @@ no-cell State.S2103 f = refl
 no-cell State.S2104 f = refl
 no-cell State.S3105 f = refl
 
-outside : (row : ℕ) (s : State) (f : Facts) → 35 ≤ row → codeSum s (answer f 78) ≡ meets (heading row) s f
-unfolding answer
-outside row s f h = rw (← past rows row nowhere h) (no-cell s f)
+outside : (row : ℕ) (s : State) (f : Facts) → 35 ≤ row → metAs s (follow f (askAt (codeAt row s))) ≡ meets (heading row) s f
+unfolding rowOf codeAt
+outside row s f h = rw (← past codes row no-row h, ← past rows row nowhere h) (no-cell s f)
 
-by-row : (b : Bool) (row : ℕ) (s : State) (f : Facts) → ltb row 35 ≡ b →
-    codeSum s (answer f (cond b (getD codes (row * 8 + place s) 0) 78)) ≡ meets (heading row) s f
+by-row : (b : Bool) (row : ℕ) (s : State) (f : Facts) → ltb row 35 ≡ b → metAs s (follow f (askAt (codeAt row s))) ≡ meets (heading row) s f
 by-row true row s f e = inside row s f (ltb-true row 35 e)
 by-row false row s f e = outside row s f (ltb-false row 35 e)
 
-pub at-each-cell : (row : ℕ) (s : State) (f : Facts) → codeSum s (answer f (codeAt row s)) ≡ met row s f
-unfolding codeAt met
+pub at-each-cell : (row : ℕ) (s : State) (f : Facts) → metAs s (follow f (askAt (codeAt row s))) ≡ met row s f
+unfolding met
 at-each-cell row s f = by-row (ltb row 35) row s f refl

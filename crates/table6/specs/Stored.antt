@@ -3,7 +3,7 @@
 use Prim.Native.Nat.{ℕ, zero, suc, _+_, _*_, _^_, _/_, _%_}
 use mathlib.Core.Bool.{Bool, cond}
 use mathlib.Core.List.{List, [], _∷_, map}
-use lib.Dec.{eqb, ltb}
+use lib.Dec.{eqb}
 use lib.ListN.{getD, length}
 use Rattle.unit.specs.declared.Mps.{Mps}
 use Rattle.unit.specs.declared.Ups.{Ups}
@@ -28,84 +28,54 @@ place State.S2103 = 5
 place State.S2104 = 6
 place State.S3105 = 7
 
-abbrev pub codes : List ℕ
+-- The codes of each row's cells, by place; 60 is Illegal.
+abbrev pub codes : List (List ℕ)
 codes =
-    78 ∷ 79 ∷ 80 ∷ 81 ∷ 82 ∷ 83 ∷ 84 ∷ 0 ∷
-    1 ∷ 1 ∷ 1 ∷ 1 ∷ 1 ∷ 1 ∷ 1 ∷ 85 ∷
-    2 ∷ 2 ∷ 2 ∷ 2 ∷ 2 ∷ 2 ∷ 2 ∷ 85 ∷
-    78 ∷ 79 ∷ 3 ∷ 4 ∷ 5 ∷ 6 ∷ 7 ∷ 8 ∷
-    9 ∷ 9 ∷ 80 ∷ 81 ∷ 82 ∷ 83 ∷ 84 ∷ 85 ∷
-    69 ∷ 69 ∷ 80 ∷ 81 ∷ 82 ∷ 83 ∷ 84 ∷ 85 ∷
-    12 ∷ 12 ∷ 80 ∷ 81 ∷ 82 ∷ 83 ∷ 84 ∷ 85 ∷
-    13 ∷ 13 ∷ 13 ∷ 13 ∷ 13 ∷ 13 ∷ 13 ∷ 13 ∷
-    13 ∷ 13 ∷ 13 ∷ 13 ∷ 13 ∷ 13 ∷ 13 ∷ 13 ∷
-    70 ∷ 79 ∷ 71 ∷ 81 ∷ 82 ∷ 83 ∷ 84 ∷ 85 ∷
-    78 ∷ 79 ∷ 80 ∷ 72 ∷ 82 ∷ 83 ∷ 84 ∷ 85 ∷
-    78 ∷ 79 ∷ 80 ∷ 73 ∷ 82 ∷ 74 ∷ 73 ∷ 75 ∷
-    78 ∷ 26 ∷ 80 ∷ 81 ∷ 27 ∷ 83 ∷ 84 ∷ 85 ∷
-    78 ∷ 79 ∷ 80 ∷ 81 ∷ 82 ∷ 28 ∷ 29 ∷ 30 ∷
-    78 ∷ 79 ∷ 80 ∷ 81 ∷ 82 ∷ 31 ∷ 31 ∷ 30 ∷
-    78 ∷ 79 ∷ 80 ∷ 81 ∷ 82 ∷ 31 ∷ 31 ∷ 31 ∷
-    78 ∷ 79 ∷ 80 ∷ 81 ∷ 82 ∷ 32 ∷ 33 ∷ 34 ∷
-    78 ∷ 79 ∷ 80 ∷ 81 ∷ 82 ∷ 35 ∷ 36 ∷ 37 ∷
-    78 ∷ 79 ∷ 80 ∷ 81 ∷ 82 ∷ 35 ∷ 38 ∷ 38 ∷
-    39 ∷ 39 ∷ 39 ∷ 39 ∷ 39 ∷ 39 ∷ 39 ∷ 39 ∷
-    76 ∷ 76 ∷ 80 ∷ 81 ∷ 82 ∷ 83 ∷ 84 ∷ 85 ∷
-    41 ∷ 41 ∷ 80 ∷ 81 ∷ 82 ∷ 83 ∷ 84 ∷ 85 ∷
-    78 ∷ 79 ∷ 80 ∷ 81 ∷ 82 ∷ 42 ∷ 84 ∷ 85 ∷
-    13 ∷ 13 ∷ 43 ∷ 44 ∷ 45 ∷ 46 ∷ 44 ∷ 47 ∷
-    48 ∷ 48 ∷ 48 ∷ 48 ∷ 48 ∷ 48 ∷ 49 ∷ 50 ∷
-    51 ∷ 51 ∷ 51 ∷ 51 ∷ 51 ∷ 51 ∷ 84 ∷ 85 ∷
-    52 ∷ 52 ∷ 52 ∷ 52 ∷ 52 ∷ 52 ∷ 52 ∷ 52 ∷
-    53 ∷ 53 ∷ 53 ∷ 53 ∷ 53 ∷ 53 ∷ 53 ∷ 53 ∷
-    54 ∷ 54 ∷ 54 ∷ 54 ∷ 54 ∷ 54 ∷ 54 ∷ 54 ∷
-    13 ∷ 13 ∷ 13 ∷ 13 ∷ 13 ∷ 55 ∷ 56 ∷ 56 ∷
-    13 ∷ 13 ∷ 13 ∷ 13 ∷ 57 ∷ 83 ∷ 58 ∷ 58 ∷
-    78 ∷ 79 ∷ 59 ∷ 81 ∷ 82 ∷ 83 ∷ 84 ∷ 85 ∷
-    78 ∷ 79 ∷ 60 ∷ 61 ∷ 62 ∷ 63 ∷ 64 ∷ 85 ∷
-    78 ∷ 79 ∷ 80 ∷ 81 ∷ 82 ∷ 65 ∷ 84 ∷ 85 ∷
-    78 ∷ 79 ∷ 80 ∷ 81 ∷ 82 ∷ 77 ∷ 84 ∷ 85 ∷ []
-
-unfoldable pub codeAt : ℕ → State → ℕ
-codeAt row s = cond (ltb row 35) (getD codes (row * 8 + place s) 0) 78
-
--- QUESTIONS
-
--- a code, or one of two by a condition
-pub data Ask : Type 0 where
-  gives : ℕ → Ask
-  asks : Cond → Ask → Ask → Ask
-
-abbrev pub follow : Facts → Ask → ℕ
-follow f (gives c) = c
-follow f (asks q y n) = cond (holds q f) (follow f y) (follow f n)
-
-pub record Question : Type 0 where
-  pub code : ℕ
-  pub ask : Ask
-
-abbrev pub question : ℕ → Ask → Question
-question c a = record { code = c; ask = a }
-
-abbrev pub questions : List Question
-questions =
-    question 69 (asks BSNT-available (gives 10) (gives 11))  -- RETRIEVE_BSNT
-    ∷ question 70 (asks LPO=0 (gives 14) (gives 15))  -- ESTABLISH_111
-    ∷ question 71 (asks UU=EM-or-NM (gives 16) (gives 17))  -- ESTABLISH_212
-    ∷ question 72 (asks UU=EM-or-NM (gives 18) (gives 19))  -- CONFIRM_222
-    ∷ question 73 (asks Source=User (gives 20) (gives 21))  -- RELEASED_BY
-    ∷ question 74 (asks Source=User (gives 22) (gives 23))  -- RELEASED_BY_2103
-    ∷ question 75 (asks Source=User (gives 24) (gives 25))  -- RELEASED_BY_3105
-    ∷ question 76 (asks MU>4 (gives 40) (gives 13))  -- RETRIEVE
-    ∷ question 77 (asks LPO=0&INS=0 (gives 66) (asks LPO=0&INS=1 (gives 67) (gives 68)))  -- T3_DONE
+    (60 ∷ 60 ∷ 60 ∷ 60 ∷ 60 ∷ 60 ∷ 60 ∷ 0 ∷ [])  -- AAL-MESSAGE_FOR_TRANSMISSION-request
+    ∷ (1 ∷ 1 ∷ 1 ∷ 1 ∷ 1 ∷ 1 ∷ 1 ∷ 60 ∷ [])  -- AAL-EMERGENCY-request
+    ∷ (2 ∷ 2 ∷ 2 ∷ 2 ∷ 2 ∷ 2 ∷ 2 ∷ 60 ∷ [])  -- AAL-EMERGENCY_CEASES-request
+    ∷ (60 ∷ 60 ∷ 3 ∷ 4 ∷ 5 ∷ 6 ∷ 7 ∷ 8 ∷ [])  -- AAL-STOP-request
+    ∷ (9 ∷ 9 ∷ 60 ∷ 60 ∷ 60 ∷ 60 ∷ 60 ∷ 60 ∷ [])  -- AAL-START-request
+    ∷ (10 ∷ 10 ∷ 60 ∷ 60 ∷ 60 ∷ 60 ∷ 60 ∷ 60 ∷ [])  -- AAL-RETRIEVE_BSNT-request
+    ∷ (11 ∷ 11 ∷ 60 ∷ 60 ∷ 60 ∷ 60 ∷ 60 ∷ 60 ∷ [])  -- AAL-RETRIEVAL_REQUEST_AND_FSNC-request
+    ∷ (12 ∷ 12 ∷ 12 ∷ 12 ∷ 12 ∷ 12 ∷ 12 ∷ 12 ∷ [])  -- AAL-FLUSH_BUFFERS-request
+    ∷ (12 ∷ 12 ∷ 12 ∷ 12 ∷ 12 ∷ 12 ∷ 12 ∷ 12 ∷ [])  -- AAL-CONTINUE-request
+    ∷ (13 ∷ 60 ∷ 14 ∷ 60 ∷ 60 ∷ 60 ∷ 60 ∷ 60 ∷ [])  -- AA-ESTABLISH-indication
+    ∷ (60 ∷ 60 ∷ 60 ∷ 15 ∷ 60 ∷ 60 ∷ 60 ∷ 60 ∷ [])  -- AA-ESTABLISH-confirm
+    ∷ (60 ∷ 60 ∷ 60 ∷ 16 ∷ 60 ∷ 17 ∷ 16 ∷ 18 ∷ [])  -- AA-RELEASE-indication
+    ∷ (60 ∷ 19 ∷ 60 ∷ 60 ∷ 20 ∷ 60 ∷ 60 ∷ 60 ∷ [])  -- AA-RELEASE-confirm
+    ∷ (60 ∷ 60 ∷ 60 ∷ 60 ∷ 60 ∷ 21 ∷ 22 ∷ 23 ∷ [])  -- AA-DATA-indication, INS unit
+    ∷ (60 ∷ 60 ∷ 60 ∷ 60 ∷ 60 ∷ 24 ∷ 24 ∷ 23 ∷ [])  -- AA-DATA-indication, NM unit
+    ∷ (60 ∷ 60 ∷ 60 ∷ 60 ∷ 60 ∷ 24 ∷ 24 ∷ 24 ∷ [])  -- AA-DATA-indication, other unit or short
+    ∷ (60 ∷ 60 ∷ 60 ∷ 60 ∷ 60 ∷ 25 ∷ 26 ∷ 27 ∷ [])  -- AA-DATA-indication, long message
+    ∷ (60 ∷ 60 ∷ 60 ∷ 60 ∷ 60 ∷ 28 ∷ 29 ∷ 30 ∷ [])  -- AA-RESYNC-indication
+    ∷ (60 ∷ 60 ∷ 60 ∷ 60 ∷ 60 ∷ 28 ∷ 31 ∷ 31 ∷ [])  -- AA-RECOVER-indication
+    ∷ (32 ∷ 32 ∷ 32 ∷ 32 ∷ 32 ∷ 32 ∷ 32 ∷ 32 ∷ [])  -- AA-UNITDATA-indication
+    ∷ (33 ∷ 33 ∷ 60 ∷ 60 ∷ 60 ∷ 60 ∷ 60 ∷ 60 ∷ [])  -- AA-RETRIEVE-indication
+    ∷ (34 ∷ 34 ∷ 60 ∷ 60 ∷ 60 ∷ 60 ∷ 60 ∷ 60 ∷ [])  -- AA-RETRIEVE_COMPLETE-indication
+    ∷ (60 ∷ 60 ∷ 60 ∷ 60 ∷ 60 ∷ 35 ∷ 60 ∷ 60 ∷ [])  -- MAAL-PROVING_UNSUCCESSFUL-response
+    ∷ (12 ∷ 12 ∷ 36 ∷ 37 ∷ 38 ∷ 39 ∷ 37 ∷ 40 ∷ [])  -- MAAL-RELEASE-request
+    ∷ (41 ∷ 41 ∷ 41 ∷ 41 ∷ 41 ∷ 41 ∷ 42 ∷ 43 ∷ [])  -- MAAL-LOCAL_PROCESSOR_OUTAGE-request
+    ∷ (44 ∷ 44 ∷ 44 ∷ 44 ∷ 44 ∷ 44 ∷ 60 ∷ 60 ∷ [])  -- MAAL-LOCAL_PROCESSOR_RECOVERED-request
+    ∷ (45 ∷ 45 ∷ 45 ∷ 45 ∷ 45 ∷ 45 ∷ 45 ∷ 45 ∷ [])  -- MAAL-FORCE_PROVING-request
+    ∷ (46 ∷ 46 ∷ 46 ∷ 46 ∷ 46 ∷ 46 ∷ 46 ∷ 46 ∷ [])  -- MAAL-FORCE_EMERGENCY-request
+    ∷ (47 ∷ 47 ∷ 47 ∷ 47 ∷ 47 ∷ 47 ∷ 47 ∷ 47 ∷ [])  -- MAAL-CLEAR_FORCE_MODES-request
+    ∷ (12 ∷ 12 ∷ 12 ∷ 12 ∷ 12 ∷ 48 ∷ 49 ∷ 49 ∷ [])  -- Local Congestion
+    ∷ (12 ∷ 12 ∷ 12 ∷ 12 ∷ 50 ∷ 60 ∷ 51 ∷ 51 ∷ [])  -- Local Congestion Ceased
+    ∷ (60 ∷ 60 ∷ 52 ∷ 60 ∷ 60 ∷ 60 ∷ 60 ∷ 60 ∷ [])  -- T1 expires
+    ∷ (60 ∷ 60 ∷ 53 ∷ 54 ∷ 55 ∷ 56 ∷ 57 ∷ 60 ∷ [])  -- T2 expires
+    ∷ (60 ∷ 60 ∷ 60 ∷ 60 ∷ 60 ∷ 58 ∷ 60 ∷ 60 ∷ [])  -- T3 expires and C1 > 0
+    ∷ (60 ∷ 60 ∷ 60 ∷ 60 ∷ 60 ∷ 59 ∷ 60 ∷ 60 ∷ [])  -- T3 expires and C1 = 0
     ∷ []
 
-abbrev pub among : ℕ → List Question → Ask
-among c [] = gives c
-among c (q ∷ others) = cond (eqb c (q .code)) (q .ask) (among c others)
+abbrev pub no-row : List ℕ
+no-row = 60 ∷ 60 ∷ 60 ∷ 60 ∷ 60 ∷ 60 ∷ 60 ∷ 60 ∷ []
 
-unfoldable pub answer : Facts → ℕ → ℕ
-answer f c = follow f (among c questions)
+unfoldable pub rowOf : ℕ → List ℕ
+rowOf row = getD codes row no-row
+
+unfoldable pub codeAt : ℕ → State → ℕ
+codeAt row s = getD (rowOf row) (place s) 0
 
 -- CHANGES
 
@@ -114,82 +84,6 @@ K = 9
 
 abbrev pub none : Change
 none = (K, K, K, K, K, K, K, K, K, K)
-
-abbrev pub changes : List Change
-changes =
-    (K, K, K, K, K, K, K, K, K, K)  -- MESSAGE
-    ∷ (K, K, K, K, 1, K, K, K, K, K)  -- EMERGENCY
-    ∷ (K, K, K, K, 0, K, K, K, K, K)  -- EMERGENCY_CEASES
-    ∷ (0, K, K, K, 0, 0, 0, K, K, K)  -- STOP_212
-    ∷ (1, K, K, K, 0, K, 0, K, K, K)  -- STOP_222
-    ∷ (1, K, K, K, 0, K, 0, K, K, K)  -- STOP_242
-    ∷ (1, K, K, K, 0, K, 0, 0, K, K)  -- STOP_2103
-    ∷ (1, K, K, K, 0, K, 0, K, K, K)  -- STOP_2104
-    ∷ (1, K, K, K, 0, K, K, K, K, K)  -- STOP_3105
-    ∷ (3, K, K, K, K, K, 1, K, K, K)  -- START
-    ∷ (K, K, K, K, K, K, K, K, K, K)  -- BSNT_KNOWN
-    ∷ (K, K, K, K, K, K, K, K, K, K)  -- BSNT_UNKNOWN
-    ∷ (K, K, K, K, K, K, K, K, K, K)  -- RETRIEVAL
-    ∷ (K, K, K, K, K, K, K, K, K, K)  -- IGNORED
-    ∷ (K, K, K, K, K, K, K, K, K, K)  -- REFUSED_OOS
-    ∷ (K, K, K, K, K, K, K, K, K, K)  -- REFUSED_PO
-    ∷ (5, 0, K, K, K, 0, K, 1, 0, K)  -- RESPONDED
-    ∷ (K, K, K, K, K, K, K, K, K, K)  -- REFUSED_PE
-    ∷ (5, 0, K, K, K, K, K, 1, 0, K)  -- CONFIRMED
-    ∷ (4, 0, K, K, K, K, K, K, 0, K)  -- CONFIRMED_PE
-    ∷ (2, K, K, K, K, 1, K, K, K, K)  -- RELEASED
-    ∷ (2, K, K, K, K, 1, K, K, K, K)  -- RELEASED_SSCOP
-    ∷ (2, K, K, K, K, 1, K, 0, K, K)  -- RELEASED_2103
-    ∷ (2, K, K, K, K, 1, K, 0, K, K)  -- RELEASED_SSCOP_2103
-    ∷ (0, K, K, K, 0, K, K, K, K, K)  -- RELEASED_3105
-    ∷ (0, K, K, K, 0, K, K, K, K, K)  -- RELEASED_SSCOP_3105
-    ∷ (0, K, K, K, K, K, K, K, K, K)  -- RELEASE_CONFIRMED_141
-    ∷ (2, K, K, K, K, 1, K, K, K, K)  -- RELEASE_CONFIRMED_242
-    ∷ (K, 1, K, K, K, K, K, K, K, 1)  -- INS_2103
-    ∷ (7, K, K, K, K, K, 0, K, K, 1)  -- INS_2104
-    ∷ (1, K, K, K, 0, K, K, K, K, 1)  -- UNIT_3105
-    ∷ (K, K, K, K, K, K, K, K, K, 1)  -- UNIT_TAKEN
-    ∷ (4, K, K, K, K, K, K, 0, K, 1)  -- LONG_2103
-    ∷ (4, K, K, K, K, K, K, K, K, 1)  -- LONG_2104
-    ∷ (K, K, K, K, K, K, K, K, K, 1)  -- LONG_3105
-    ∷ (4, K, K, K, K, K, K, 0, K, K)  -- RESYNC_2103
-    ∷ (4, K, K, K, K, K, K, K, K, K)  -- RESYNC_2104
-    ∷ (1, K, K, K, 0, K, K, K, K, K)  -- RESYNC_3105
-    ∷ (K, K, K, K, K, K, K, K, K, K)  -- RECOVER
-    ∷ (K, K, K, K, K, K, K, K, K, K)  -- UNITDATA
-    ∷ (K, K, K, K, K, K, K, K, K, K)  -- RETRIEVED
-    ∷ (K, K, K, K, K, K, K, K, K, K)  -- RETRIEVE_COMPLETE
-    ∷ (4, K, K, K, K, K, K, 0, K, K)  -- PROVING_UNSUCCESSFUL
-    ∷ (0, K, K, K, 0, 0, 0, K, K, K)  -- RELEASE_212
-    ∷ (1, K, K, K, 0, K, 0, K, K, K)  -- RELEASE_222
-    ∷ (1, K, K, K, 0, K, 0, K, K, K)  -- RELEASE_242
-    ∷ (1, K, K, K, 0, K, 0, 0, K, K)  -- RELEASE_2103
-    ∷ (1, K, K, K, 0, K, K, K, K, K)  -- RELEASE_3105
-    ∷ (K, K, 1, K, K, K, K, K, K, K)  -- OUTAGE
-    ∷ (1, K, 1, K, 0, K, 0, K, K, K)  -- OUTAGE_2104
-    ∷ (1, K, 1, K, 0, K, K, K, K, K)  -- OUTAGE_3105
-    ∷ (K, K, 0, K, K, K, K, K, K, K)  -- RECOVERED
-    ∷ (K, K, K, 1, K, K, K, K, K, K)  -- FORCE_PROVING
-    ∷ (K, K, K, 2, K, K, K, K, K, K)  -- FORCE_EMERGENCY
-    ∷ (K, K, K, 0, K, K, K, K, K, K)  -- CLEAR_FORCE_MODES
-    ∷ (4, K, K, K, K, K, K, 0, K, K)  -- CONGESTION_2103
-    ∷ (K, K, K, K, K, K, K, K, K, K)  -- CONGESTION
-    ∷ (K, K, K, K, K, K, K, K, K, K)  -- CEASED_242
-    ∷ (K, K, K, K, K, K, K, K, K, K)  -- CEASED
-    ∷ (3, K, K, K, K, 0, K, K, K, K)  -- T1_212
-    ∷ (0, K, K, K, 0, 0, 0, K, K, K)  -- T2_212
-    ∷ (1, K, K, K, 0, K, 0, K, K, K)  -- T2_222
-    ∷ (1, K, K, K, 0, K, 0, K, K, K)  -- T2_242
-    ∷ (1, K, K, K, 0, K, 0, 0, K, K)  -- T2_2103
-    ∷ (1, K, K, K, 0, K, 0, K, K, K)  -- T2_2104
-    ∷ (K, K, K, K, K, K, K, 1, 1, K)  -- T3_PROVING
-    ∷ (6, K, K, K, K, K, K, 0, K, K)  -- T3_ALIGNED
-    ∷ (7, K, K, K, K, K, 0, 0, K, K)  -- T3_IN_SERVICE
-    ∷ (1, K, K, K, 0, K, 0, 0, K, K)  -- T3_OUTAGE
-    ∷ []
-
-unfoldable pub changeAt : ℕ → Change
-changeAt c = getD changes c none
 
 abbrev pub flagOp : ℕ → Op Bool
 flagOp x = cond (eqb x K) keep (put (eqb x 1))
@@ -278,82 +172,6 @@ octets (w ∷ ws) = w + 256 * octets ws
 abbrev pub packed : List ℕ → ℕ
 packed ws = length ws + 256 * octets ws
 
-abbrev pub sayings : List ℕ
-sayings =
-    packed (44 ∷ 18 ∷ [])  -- MESSAGE
-    ∷ packed ([])  -- EMERGENCY
-    ∷ packed ([])  -- EMERGENCY_CEASES
-    ∷ packed (19 ∷ 30 ∷ 31 ∷ [])  -- STOP_212
-    ∷ packed (5 ∷ 19 ∷ 31 ∷ [])  -- STOP_222
-    ∷ packed (19 ∷ 31 ∷ [])  -- STOP_242
-    ∷ packed (5 ∷ 25 ∷ 13 ∷ 31 ∷ 32 ∷ [])  -- STOP_2103
-    ∷ packed (5 ∷ 25 ∷ 31 ∷ [])  -- STOP_2104
-    ∷ packed (5 ∷ 25 ∷ [])  -- STOP_3105
-    ∷ packed (38 ∷ 22 ∷ 34 ∷ [])  -- START
-    ∷ packed (37 ∷ [])  -- BSNT_KNOWN
-    ∷ packed (4 ∷ [])  -- BSNT_UNKNOWN
-    ∷ packed (40 ∷ [])  -- RETRIEVAL
-    ∷ packed ([])  -- IGNORED
-    ∷ packed (5 ∷ [])  -- REFUSED_OOS
-    ∷ packed (6 ∷ [])  -- REFUSED_PO
-    ∷ packed (39 ∷ 12 ∷ 30 ∷ 35 ∷ [])  -- RESPONDED
-    ∷ packed (9 ∷ 24 ∷ [])  -- REFUSED_PE
-    ∷ packed (12 ∷ 35 ∷ [])  -- CONFIRMED
-    ∷ packed (9 ∷ 24 ∷ [])  -- CONFIRMED_PE
-    ∷ packed (41 ∷ 33 ∷ [])  -- RELEASED
-    ∷ packed (28 ∷ 33 ∷ [])  -- RELEASED_SSCOP
-    ∷ packed (41 ∷ 13 ∷ 32 ∷ 33 ∷ [])  -- RELEASED_2103
-    ∷ packed (28 ∷ 13 ∷ 32 ∷ 33 ∷ [])  -- RELEASED_SSCOP_2103
-    ∷ packed (2 ∷ 41 ∷ [])  -- RELEASED_3105
-    ∷ packed (2 ∷ 29 ∷ [])  -- RELEASED_SSCOP_3105
-    ∷ packed ([])  -- RELEASE_CONFIRMED_141
-    ∷ packed (33 ∷ [])  -- RELEASE_CONFIRMED_242
-    ∷ packed ([])  -- INS_2103
-    ∷ packed (1 ∷ 21 ∷ 31 ∷ [])  -- INS_2104
-    ∷ packed (9 ∷ 2 ∷ 27 ∷ [])  -- UNIT_3105
-    ∷ packed ([])  -- UNIT_TAKEN
-    ∷ packed (24 ∷ 9 ∷ 13 ∷ 32 ∷ [])  -- LONG_2103
-    ∷ packed (9 ∷ 24 ∷ [])  -- LONG_2104
-    ∷ packed (42 ∷ [])  -- LONG_3105
-    ∷ packed (24 ∷ 9 ∷ 13 ∷ 32 ∷ [])  -- RESYNC_2103
-    ∷ packed (24 ∷ 9 ∷ [])  -- RESYNC_2104
-    ∷ packed (9 ∷ 2 ∷ 27 ∷ [])  -- RESYNC_3105
-    ∷ packed (11 ∷ 16 ∷ [])  -- RECOVER
-    ∷ packed (17 ∷ [])  -- UNITDATA
-    ∷ packed (43 ∷ [])  -- RETRIEVED
-    ∷ packed (3 ∷ [])  -- RETRIEVE_COMPLETE
-    ∷ packed (10 ∷ 32 ∷ [])  -- PROVING_UNSUCCESSFUL
-    ∷ packed (2 ∷ 30 ∷ 31 ∷ [])  -- RELEASE_212
-    ∷ packed (8 ∷ 2 ∷ 31 ∷ [])  -- RELEASE_222
-    ∷ packed (2 ∷ 31 ∷ [])  -- RELEASE_242
-    ∷ packed (8 ∷ 2 ∷ 31 ∷ 32 ∷ [])  -- RELEASE_2103
-    ∷ packed (8 ∷ 2 ∷ [])  -- RELEASE_3105
-    ∷ packed ([])  -- OUTAGE
-    ∷ packed (6 ∷ 2 ∷ 31 ∷ [])  -- OUTAGE_2104
-    ∷ packed (6 ∷ 2 ∷ [])  -- OUTAGE_3105
-    ∷ packed ([])  -- RECOVERED
-    ∷ packed ([])  -- FORCE_PROVING
-    ∷ packed ([])  -- FORCE_EMERGENCY
-    ∷ packed ([])  -- CLEAR_FORCE_MODES
-    ∷ packed (10 ∷ 23 ∷ 13 ∷ 32 ∷ [])  -- CONGESTION_2103
-    ∷ packed (36 ∷ 15 ∷ [])  -- CONGESTION
-    ∷ packed (14 ∷ [])  -- CEASED_242
-    ∷ packed (0 ∷ 14 ∷ [])  -- CEASED
-    ∷ packed (38 ∷ [])  -- T1_212
-    ∷ packed (2 ∷ 26 ∷ 30 ∷ [])  -- T2_212
-    ∷ packed (7 ∷ 2 ∷ 26 ∷ [])  -- T2_222
-    ∷ packed (2 ∷ 20 ∷ [])  -- T2_242
-    ∷ packed (26 ∷ 13 ∷ 2 ∷ 7 ∷ 32 ∷ [])  -- T2_2103
-    ∷ packed (26 ∷ 2 ∷ 7 ∷ [])  -- T2_2104
-    ∷ packed (45 ∷ 35 ∷ [])  -- T3_PROVING
-    ∷ packed (13 ∷ 46 ∷ [])  -- T3_ALIGNED
-    ∷ packed (13 ∷ 46 ∷ 21 ∷ 1 ∷ 31 ∷ [])  -- T3_IN_SERVICE
-    ∷ packed (6 ∷ 2 ∷ 25 ∷ 13 ∷ 31 ∷ [])  -- T3_OUTAGE
-    ∷ []
-
-unfoldable pub saysAt : ℕ → ℕ
-saysAt c = getD sayings c 0
-
 -- f at i and at the n - 1 numbers after it
 abbrev pub from {ℓ} : {A : Type ℓ} → (ℕ → A) → ℕ → ℕ → List A
 from f i zero = []
@@ -365,6 +183,89 @@ octet w k = w / 2 ^ (k * 8 + 8) % 256
 
 abbrev pub said : ℕ → List Act
 said w = map wordAt (from (octet w) 0 (w % 8))
+
+-- CODES
+
+-- What a code does: it is Illegal, or a change and words, or one of two by a condition.
+pub data Ask : Type 0 where
+  refuses : Ask
+  gives : Change → List ℕ → Ask
+  asks : Cond → Ask → Ask → Ask
+
+abbrev pub follow : Facts → Ask → Met
+follow f refuses = Met.Illegal
+follow f (gives c ws) = Met.Does c (packed ws)
+follow f (asks q y n) = cond (holds q f) (follow f y) (follow f n)
+
+abbrev pub effects : List Ask
+effects =
+    gives none (44 ∷ 18 ∷ [])  -- MESSAGE
+    ∷ gives (K, K, K, K, 1, K, K, K, K, K) []  -- EMERGENCY
+    ∷ gives (K, K, K, K, 0, K, K, K, K, K) []  -- EMERGENCY_CEASES
+    ∷ gives (0, K, K, K, 0, 0, 0, K, K, K) (19 ∷ 30 ∷ 31 ∷ [])  -- STOP_212
+    ∷ gives (1, K, K, K, 0, K, 0, K, K, K) (5 ∷ 19 ∷ 31 ∷ [])  -- STOP_222
+    ∷ gives (1, K, K, K, 0, K, 0, K, K, K) (19 ∷ 31 ∷ [])  -- STOP_242
+    ∷ gives (1, K, K, K, 0, K, 0, 0, K, K) (5 ∷ 25 ∷ 13 ∷ 31 ∷ 32 ∷ [])  -- STOP_2103
+    ∷ gives (1, K, K, K, 0, K, 0, K, K, K) (5 ∷ 25 ∷ 31 ∷ [])  -- STOP_2104
+    ∷ gives (1, K, K, K, 0, K, K, K, K, K) (5 ∷ 25 ∷ [])  -- STOP_3105
+    ∷ gives (3, K, K, K, K, K, 1, K, K, K) (38 ∷ 22 ∷ 34 ∷ [])  -- START
+    ∷ asks BSNT-available (gives none (37 ∷ [])) (gives none (4 ∷ []))  -- RETRIEVE_BSNT
+    ∷ gives none (40 ∷ [])  -- RETRIEVAL
+    ∷ gives none []  -- IGNORED
+    ∷ asks LPO=0 (gives none (5 ∷ [])) (gives none (6 ∷ []))  -- ESTABLISH_111
+    ∷ asks UU=EM-or-NM (gives (5, 0, K, K, K, 0, K, 1, 0, K) (39 ∷ 12 ∷ 30 ∷ 35 ∷ [])) (gives none (9 ∷ 24 ∷ []))  -- ESTABLISH_212
+    ∷ asks UU=EM-or-NM (gives (5, 0, K, K, K, K, K, 1, 0, K) (12 ∷ 35 ∷ [])) (gives (4, 0, K, K, K, K, K, K, 0, K) (9 ∷ 24 ∷ []))  -- CONFIRM_222
+    ∷ asks Source=User (gives (2, K, K, K, K, 1, K, K, K, K) (41 ∷ 33 ∷ [])) (gives (2, K, K, K, K, 1, K, K, K, K) (28 ∷ 33 ∷ []))  -- RELEASED_BY
+    ∷ asks Source=User (gives (2, K, K, K, K, 1, K, 0, K, K) (41 ∷ 13 ∷ 32 ∷ 33 ∷ []))
+    (gives (2, K, K, K, K, 1, K, 0, K, K) (28 ∷ 13 ∷ 32 ∷ 33 ∷ []))  -- RELEASED_BY_2103
+    ∷ asks Source=User (gives (0, K, K, K, 0, K, K, K, K, K) (2 ∷ 41 ∷ [])) (gives (0, K, K, K, 0, K, K, K, K, K) (2 ∷ 29 ∷ []))  -- RELEASED_BY_3105
+    ∷ gives (0, K, K, K, K, K, K, K, K, K) []  -- RELEASE_CONFIRMED_141
+    ∷ gives (2, K, K, K, K, 1, K, K, K, K) (33 ∷ [])  -- RELEASE_CONFIRMED_242
+    ∷ gives (K, 1, K, K, K, K, K, K, K, 1) []  -- INS_2103
+    ∷ gives (7, K, K, K, K, K, 0, K, K, 1) (1 ∷ 21 ∷ 31 ∷ [])  -- INS_2104
+    ∷ gives (1, K, K, K, 0, K, K, K, K, 1) (9 ∷ 2 ∷ 27 ∷ [])  -- UNIT_3105
+    ∷ gives (K, K, K, K, K, K, K, K, K, 1) []  -- UNIT_TAKEN
+    ∷ gives (4, K, K, K, K, K, K, 0, K, 1) (24 ∷ 9 ∷ 13 ∷ 32 ∷ [])  -- LONG_2103
+    ∷ gives (4, K, K, K, K, K, K, K, K, 1) (9 ∷ 24 ∷ [])  -- LONG_2104
+    ∷ gives (K, K, K, K, K, K, K, K, K, 1) (42 ∷ [])  -- LONG_3105
+    ∷ gives (4, K, K, K, K, K, K, 0, K, K) (24 ∷ 9 ∷ 13 ∷ 32 ∷ [])  -- RESYNC_2103
+    ∷ gives (4, K, K, K, K, K, K, K, K, K) (24 ∷ 9 ∷ [])  -- RESYNC_2104
+    ∷ gives (1, K, K, K, 0, K, K, K, K, K) (9 ∷ 2 ∷ 27 ∷ [])  -- RESYNC_3105
+    ∷ gives none (11 ∷ 16 ∷ [])  -- RECOVER
+    ∷ gives none (17 ∷ [])  -- UNITDATA
+    ∷ asks MU>4 (gives none (43 ∷ [])) (gives none [])  -- RETRIEVE
+    ∷ gives none (3 ∷ [])  -- RETRIEVE_COMPLETE
+    ∷ gives (4, K, K, K, K, K, K, 0, K, K) (10 ∷ 32 ∷ [])  -- PROVING_UNSUCCESSFUL
+    ∷ gives (0, K, K, K, 0, 0, 0, K, K, K) (2 ∷ 30 ∷ 31 ∷ [])  -- RELEASE_212
+    ∷ gives (1, K, K, K, 0, K, 0, K, K, K) (8 ∷ 2 ∷ 31 ∷ [])  -- RELEASE_222
+    ∷ gives (1, K, K, K, 0, K, 0, K, K, K) (2 ∷ 31 ∷ [])  -- RELEASE_242
+    ∷ gives (1, K, K, K, 0, K, 0, 0, K, K) (8 ∷ 2 ∷ 31 ∷ 32 ∷ [])  -- RELEASE_2103
+    ∷ gives (1, K, K, K, 0, K, K, K, K, K) (8 ∷ 2 ∷ [])  -- RELEASE_3105
+    ∷ gives (K, K, 1, K, K, K, K, K, K, K) []  -- OUTAGE
+    ∷ gives (1, K, 1, K, 0, K, 0, K, K, K) (6 ∷ 2 ∷ 31 ∷ [])  -- OUTAGE_2104
+    ∷ gives (1, K, 1, K, 0, K, K, K, K, K) (6 ∷ 2 ∷ [])  -- OUTAGE_3105
+    ∷ gives (K, K, 0, K, K, K, K, K, K, K) []  -- RECOVERED
+    ∷ gives (K, K, K, 1, K, K, K, K, K, K) []  -- FORCE_PROVING
+    ∷ gives (K, K, K, 2, K, K, K, K, K, K) []  -- FORCE_EMERGENCY
+    ∷ gives (K, K, K, 0, K, K, K, K, K, K) []  -- CLEAR_FORCE_MODES
+    ∷ gives (4, K, K, K, K, K, K, 0, K, K) (10 ∷ 23 ∷ 13 ∷ 32 ∷ [])  -- CONGESTION_2103
+    ∷ gives none (36 ∷ 15 ∷ [])  -- CONGESTION
+    ∷ gives none (14 ∷ [])  -- CEASED_242
+    ∷ gives none (0 ∷ 14 ∷ [])  -- CEASED
+    ∷ gives (3, K, K, K, K, 0, K, K, K, K) (38 ∷ [])  -- T1_212
+    ∷ gives (0, K, K, K, 0, 0, 0, K, K, K) (2 ∷ 26 ∷ 30 ∷ [])  -- T2_212
+    ∷ gives (1, K, K, K, 0, K, 0, K, K, K) (7 ∷ 2 ∷ 26 ∷ [])  -- T2_222
+    ∷ gives (1, K, K, K, 0, K, 0, K, K, K) (2 ∷ 20 ∷ [])  -- T2_242
+    ∷ gives (1, K, K, K, 0, K, 0, 0, K, K) (26 ∷ 13 ∷ 2 ∷ 7 ∷ 32 ∷ [])  -- T2_2103
+    ∷ gives (1, K, K, K, 0, K, 0, K, K, K) (26 ∷ 2 ∷ 7 ∷ [])  -- T2_2104
+    ∷ gives (K, K, K, K, K, K, K, 1, 1, K) (45 ∷ 35 ∷ [])  -- T3_PROVING
+    ∷ asks LPO=0&INS=0 (gives (6, K, K, K, K, K, K, 0, K, K) (13 ∷ 46 ∷ []))
+    (asks LPO=0&INS=1 (gives (7, K, K, K, K, K, 0, 0, K, K) (13 ∷ 46 ∷ 21 ∷ 1 ∷ 31 ∷ []))
+    (gives (1, K, K, K, 0, K, 0, 0, K, K) (6 ∷ 2 ∷ 25 ∷ 13 ∷ 31 ∷ [])))  -- T3_DONE
+    ∷ []
+
+unfoldable pub askAt : ℕ → Ask
+askAt c = getD effects c refuses
 
 -- WHAT THE CODE ANSWERS
 

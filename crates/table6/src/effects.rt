@@ -1,10 +1,10 @@
 // What each code of Table 6 does: to every field of a link, and which signals it emits, in their order.
+use crate::Facts;
 use crate::Met;
 use crate::cells;
 ghost use mathlib.Core.Path.{_≡_};
 ghost use mathlib.Core.List.{[], _∷_};
-ghost use Rattle.table6.specs.declared.Met.{Met};
-ghost use Rattle.table6.specs.Stored.{changeAt, packed, saysAt};
+ghost use Rattle.table6.specs.Stored.{askAt, follow, packed};
 
 // Kept as it is.
 pub const K: u8 = 9;
@@ -202,9 +202,9 @@ fn say5(a: u8, b: u8, c: u8, d: u8, e: u8) -> u64
         + e as u64 * 1099511627776
 }
 
-// What a code does to the link, and its signals. One match for both, so that a step branches once.
-pub fn does(code: u8) -> Met
-    ensures { λ r. ⌜ r ≡ Met.Does (changeAt code) (saysAt code) ⌝ }
+// What a code does to the link, and its signals, where the cell asks a condition by what the facts say. One match for all, so that a step branches once.
+pub fn does(code: u8, f: Facts) -> Met
+    ensures { λ r. ⌜ r ≡ follow f (askAt code) ⌝ }
 {
     match code {
         cells::MESSAGE => Met::Does(
@@ -241,55 +241,76 @@ pub fn does(code: u8) -> Met
             Change(TO_222, K, K, K, K, K, ON, K, K, K),
             say3(ESTABLISH_REQUEST, REPORT_ALN, SET_T2),
         ),
-        cells::BSNT_KNOWN => Met::Does(Change(K, K, K, K, K, K, K, K, K, K), say1(BSNT)),
-        cells::BSNT_UNKNOWN => Met::Does(
-            Change(K, K, K, K, K, K, K, K, K, K),
-            say1(BSNT_NOT_RETRIEVABLE),
-        ),
+        cells::RETRIEVE_BSNT => if f.bsnt {
+            Met::Does(Change(K, K, K, K, K, K, K, K, K, K), say1(BSNT))
+        } else {
+            Met::Does(
+                Change(K, K, K, K, K, K, K, K, K, K),
+                say1(BSNT_NOT_RETRIEVABLE),
+            )
+        },
         cells::RETRIEVAL => Met::Does(Change(K, K, K, K, K, K, K, K, K, K), say1(RETRIEVE_REQUEST)),
         cells::IGNORED => Met::Does(Change(K, K, K, K, K, K, K, K, K, K), say0()),
-        cells::REFUSED_OOS => Met::Does(Change(K, K, K, K, K, K, K, K, K, K), say1(RELEASE_OOS)),
-        cells::REFUSED_PO => Met::Does(Change(K, K, K, K, K, K, K, K, K, K), say1(RELEASE_PO)),
-        cells::RESPONDED => Met::Does(
-            Change(TO_2103, OFF, K, K, K, OFF, K, ON, DECIDED, K),
-            say4(ESTABLISH_RESPONSE, PROVE, RESET_T1, SET_T3),
-        ),
-        cells::REFUSED_PE => Met::Does(
-            Change(K, K, K, K, K, K, K, K, K, K),
-            say2(RELEASE_PE, REPORT_LR_PE),
-        ),
-        cells::CONFIRMED => Met::Does(
-            Change(TO_2103, OFF, K, K, K, K, K, ON, DECIDED, K),
-            say2(PROVE, SET_T3),
-        ),
-        cells::CONFIRMED_PE => Met::Does(
-            Change(TO_242, OFF, K, K, K, K, K, K, DECIDED, K),
-            say2(RELEASE_PE, REPORT_LR_PE),
-        ),
-        cells::RELEASED => Met::Does(
-            Change(TO_212, K, K, K, K, ON, K, K, K, K),
-            say2(REPORT_RR_UU, SET_T1),
-        ),
-        cells::RELEASED_SSCOP => Met::Does(
-            Change(TO_212, K, K, K, K, ON, K, K, K, K),
-            say2(REPORT_SR, SET_T1),
-        ),
-        cells::RELEASED_2103 => Met::Does(
-            Change(TO_212, K, K, K, K, ON, K, OFF, K, K),
-            say4(REPORT_RR_UU, STOP, RESET_T3, SET_T1),
-        ),
-        cells::RELEASED_SSCOP_2103 => Met::Does(
-            Change(TO_212, K, K, K, K, ON, K, OFF, K, K),
-            say4(REPORT_SR, STOP, RESET_T3, SET_T1),
-        ),
-        cells::RELEASED_3105 => Met::Does(
-            Change(TO_111, K, K, K, UPS_NM, K, K, K, K, K),
-            say2(OUT, REPORT_RR_UU),
-        ),
-        cells::RELEASED_SSCOP_3105 => Met::Does(
-            Change(TO_111, K, K, K, UPS_NM, K, K, K, K, K),
-            say2(OUT, REPORT_SR_OOS),
-        ),
+        cells::ESTABLISH_111 => if f.lpo {
+            Met::Does(Change(K, K, K, K, K, K, K, K, K, K), say1(RELEASE_PO))
+        } else {
+            Met::Does(Change(K, K, K, K, K, K, K, K, K, K), say1(RELEASE_OOS))
+        },
+        cells::ESTABLISH_212 => if f.uu {
+            Met::Does(
+                Change(TO_2103, OFF, K, K, K, OFF, K, ON, DECIDED, K),
+                say4(ESTABLISH_RESPONSE, PROVE, RESET_T1, SET_T3),
+            )
+        } else {
+            Met::Does(
+                Change(K, K, K, K, K, K, K, K, K, K),
+                say2(RELEASE_PE, REPORT_LR_PE),
+            )
+        },
+        cells::CONFIRM_222 => if f.uu {
+            Met::Does(
+                Change(TO_2103, OFF, K, K, K, K, K, ON, DECIDED, K),
+                say2(PROVE, SET_T3),
+            )
+        } else {
+            Met::Does(
+                Change(TO_242, OFF, K, K, K, K, K, K, DECIDED, K),
+                say2(RELEASE_PE, REPORT_LR_PE),
+            )
+        },
+        cells::RELEASED_BY => if f.user {
+            Met::Does(
+                Change(TO_212, K, K, K, K, ON, K, K, K, K),
+                say2(REPORT_RR_UU, SET_T1),
+            )
+        } else {
+            Met::Does(
+                Change(TO_212, K, K, K, K, ON, K, K, K, K),
+                say2(REPORT_SR, SET_T1),
+            )
+        },
+        cells::RELEASED_BY_2103 => if f.user {
+            Met::Does(
+                Change(TO_212, K, K, K, K, ON, K, OFF, K, K),
+                say4(REPORT_RR_UU, STOP, RESET_T3, SET_T1),
+            )
+        } else {
+            Met::Does(
+                Change(TO_212, K, K, K, K, ON, K, OFF, K, K),
+                say4(REPORT_SR, STOP, RESET_T3, SET_T1),
+            )
+        },
+        cells::RELEASED_BY_3105 => if f.user {
+            Met::Does(
+                Change(TO_111, K, K, K, UPS_NM, K, K, K, K, K),
+                say2(OUT, REPORT_RR_UU),
+            )
+        } else {
+            Met::Does(
+                Change(TO_111, K, K, K, UPS_NM, K, K, K, K, K),
+                say2(OUT, REPORT_SR_OOS),
+            )
+        },
         cells::RELEASE_CONFIRMED_141 => Met::Does(
             Change(TO_111, K, K, K, K, K, K, K, K, K),
             say0(),
@@ -337,10 +358,14 @@ pub fn does(code: u8) -> Met
             say2(RECOVER_RESPONSE, REPORT_SREC),
         ),
         cells::UNITDATA => Met::Does(Change(K, K, K, K, K, K, K, K, K, K), say1(REPORT_UDR)),
-        cells::RETRIEVED => Met::Does(
-            Change(K, K, K, K, K, K, K, K, K, K),
-            say1(RETRIEVED_MESSAGES),
-        ),
+        cells::RETRIEVE => if f.long {
+            Met::Does(
+                Change(K, K, K, K, K, K, K, K, K, K),
+                say1(RETRIEVED_MESSAGES),
+            )
+        } else {
+            Met::Does(Change(K, K, K, K, K, K, K, K, K, K), say0())
+        },
         cells::RETRIEVE_COMPLETE => Met::Does(
             Change(K, K, K, K, K, K, K, K, K, K),
             say1(RETRIEVAL_COMPLETE),
@@ -423,18 +448,22 @@ pub fn does(code: u8) -> Met
             Change(K, K, K, K, K, K, K, ON, LESS, K),
             say2(UNIT_NM, SET_T3),
         ),
-        cells::T3_ALIGNED => Met::Does(
-            Change(TO_2104, K, K, K, K, K, K, OFF, K, K),
-            say2(STOP, UNIT_INS),
-        ),
-        cells::T3_IN_SERVICE => Met::Does(
-            Change(TO_3105, K, K, K, K, K, OFF, OFF, K, K),
-            say5(STOP, UNIT_INS, REPORT_INS, IN, RESET_T2),
-        ),
-        cells::T3_OUTAGE => Met::Does(
-            Change(TO_141, K, K, K, UPS_NM, K, OFF, OFF, K, K),
-            say5(RELEASE_PO, OUT, REPORT_LR_OOS, STOP, RESET_T2),
-        ),
-        _ => Met::Does(Change(K, K, K, K, K, K, K, K, K, K), say0()),
+        cells::T3_DONE => if f.lpo {
+            Met::Does(
+                Change(TO_141, K, K, K, UPS_NM, K, OFF, OFF, K, K),
+                say5(RELEASE_PO, OUT, REPORT_LR_OOS, STOP, RESET_T2),
+            )
+        } else if f.ins {
+            Met::Does(
+                Change(TO_3105, K, K, K, K, K, OFF, OFF, K, K),
+                say5(STOP, UNIT_INS, REPORT_INS, IN, RESET_T2),
+            )
+        } else {
+            Met::Does(
+                Change(TO_2104, K, K, K, K, K, K, OFF, K, K),
+                say2(STOP, UNIT_INS),
+            )
+        },
+        _ => Met::Illegal,
     }
 }

@@ -45,11 +45,5 @@ pub enum Met {
 pub fn cell(row: u8, state: State, facts: Facts) -> Met
     ensures { λ r. ⌜ metAs state r ≡ met row state facts ⌝ }
 {
-    let code = cells::code_at(row, state);
-    let last = cells::answered(code, facts);
-    if cells::ILLEGAL <= last {
-        Met::Illegal
-    } else {
-        effects::does(last)
-    }
+    effects::does(cells::code_at(row, state), facts)
 }
