@@ -4,7 +4,7 @@ use record::writing::put_at;
 ghost use mathlib.Core.Path.{_≡_};
 ghost use mathlib.Core.List.{_∷_, [], _++_};
 ghost use Prim.Native.Nat.{_+_, _*_, _≤_, _<_};
-ghost use lib.ListN.{length, take, drop};
+ghost use lib.ListN.{length, drop};
 ghost use Rattle.lines.specs.Text.{decimal, digit as Text·digit, hexadecimal, Added};
 
 pub fn add(text: &mut [u8], a: usize, octets: &[u8]) -> usize

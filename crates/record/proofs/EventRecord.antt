@@ -16,7 +16,7 @@ use Rattle.link.specs.Signal.{num, none}
 use Rattle.record.specs.declared.events.Reading.{Reading}
 use Rattle.record.specs.Octets.{at}
 use Rattle.record.specs.Frame.{EV, lengthAt, linkAt, numberAt, messageOf, codeAt, paramAt, written}
-use Rattle.record.specs.EventRecord.{framed, Code, codes, Coded, among, Each, codedAt, codedIn, said, eventOf, isStatus, hasMessage, hasNumber, hasParameter, isZero, misfit, fitting, fieldsOf, readingOf, Holds, Carried, carrying, carried, Rewritten, Reread}
+use Rattle.record.specs.EventRecord.{framed, Code, codes, Coded, among, Each, codedAt, codedIn, said, isStatus, hasMessage, hasNumber, hasParameter, isZero, misfit, fitting, fieldsOf, readingOf, Holds, Carried, carrying, carried, Rewritten, Reread}
 use Rattle.record.proofs.Frame.{frame-rewritten, frame-reread, two-back}
 
 -- WHAT A READING TELLS of the tests in it: whether the frame is sound, what the code says, whether a field misfits

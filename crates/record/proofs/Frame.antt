@@ -48,6 +48,11 @@ sound mark r f =
 pub message-length : (mark r : List ℕ) → framedAs mark r ≡ true → length (messageOf r) ≡ lengthAt r
 message-length mark r f = length-drop 12 r ∙ omega (arith, sound mark r f .follows)
 
+-- the length's octets of a record are those of its message
+pub length-octets : (e : List ℕ) → at e 11 < 256 → lengthAt e ≡ length (messageOf e) → (length (messageOf e) / 256 ≡ at e 10) × (length (messageOf e) % 256 ≡ at e 11)
+length-octets e b h =
+    (ap (λ (n : ℕ). n / 256) (sym h) ∙ high-same (at e 10) (at e 11) b, ap (λ (n : ℕ). n % 256) (sym h) ∙ low-same (at e 10) (at e 11) b)
+
 -- WRITING WHAT WAS READ
 
 one-more : (i : ℕ) (r : List ℕ) → i < length r → at r i ∷ drop (suc i) r ≡ drop i r
@@ -77,15 +82,13 @@ pub frame-rewritten : (mark r : List ℕ) → Octets r → framedAs mark r ≡ t
 unfolding written
 frame-rewritten mark r o f =
     let s = sound mark r f in
-    let m = message-length mark r f in
+    let l = length-octets r (octet-at r o 11) (sym (message-length mark r f)) in
     let e0 = sym (s .mark₀) in
     let e1 = sym (s .mark₁) in
     let e2 = high-same (at r 2) (at r 3) (octet-at r o 3) in
     let e3 = low-same (at r 2) (at r 3) (octet-at r o 3) in
     let e9 = sym (s .nine) in
-    let e10 = ap (λ (y : ℕ). y / 256) m ∙ high-same (at r 10) (at r 11) (octet-at r o 11) in
-    let e11 = ap (λ (y : ℕ). y % 256) m ∙ low-same (at r 10) (at r 11) (octet-at r o 11) in
-    (λ i. e0 i ∷ e1 i ∷ e2 i ∷ e3 i ∷ at r 4 ∷ at r 5 ∷ at r 6 ∷ at r 7 ∷ at r 8 ∷ e9 i ∷ e10 i ∷ e11 i ∷ messageOf r) ∙ heads r (s .twelve)
+    (λ i. e0 i ∷ e1 i ∷ e2 i ∷ e3 i ∷ at r 4 ∷ at r 5 ∷ at r 6 ∷ at r 7 ∷ at r 8 ∷ e9 i ∷ l .0 i ∷ l .1 i ∷ messageOf r) ∙ heads r (s .twelve)
 
 -- THE LENGTH OF A SOUND FRAME, which is that of its message and twelve
 

@@ -1,7 +1,7 @@
 -- Signals written one behind the other, and their records there and back. Assumes nothing.
 use mathlib.Core.Path.{_≡_, refl, sym, ap, _∙_}
 use mathlib.Core.List.{List, [], _∷_, _++_, append-assoc, append-nil}
-use Prim.Native.Nat.{ℕ, zero, suc, _+_, _-_, _*_, _^_, _/_, _%_, _≤_, _<_}
+use Prim.Native.Nat.{ℕ, zero, suc, _+_, _-_, _*_, _^_, _/_, _≤_, _<_}
 use native.Mathlib.Nat.{add-mul, div-div-eq-div-mul}
 use native.Mathlib.Numerals.{add-one}
 use native.Mathlib.Omega.{arith}
@@ -15,7 +15,7 @@ use Rattle.link.specs.declared.Said.{Said}
 use Rattle.link.specs.declared.Signal.{Signal}
 use Rattle.link.specs.Kept.{messagesIn, messages}
 use Rattle.record.specs.Octets.{at, over, putAt}
-use Rattle.record.specs.Frame.{SG, written, linkAt, lengthAt, messageOf}
+use Rattle.record.specs.Frame.{SG, written, linkAt, lengthAt}
 use Rattle.record.specs.SignalRecord.{bodyOf, signalOctets, joined, told, fromCode, fixedAt, Put, PutCode, SignalReread, SignalRewritten, SignalsApart}
 use Rattle.record.proofs.Over.{lent, behind, put-behind, put-set}
 use Rattle.record.proofs.LinkRecord.{high-same, low-same}
@@ -34,15 +34,6 @@ pub fixed-known : (o : Said) (m : List ℕ) (w : ℕ) → w < 36 → fixedAt w �
 unfolding fixedAt
 fixed-known o m w h = alike fixedAt (λ w. fromCode m (told o w)) 36 [] refl w h
 
--- a word that is none of the k from a on is past them
-abbrev pub MissedFrom : ℕ → ℕ → ℕ → Type 0
-MissedFrom a zero w = Unit {0}
-MissedFrom a (suc k) w = MissedFrom a k w × (w ≡ a + k → ⊥)
-
-pub missed-from : (a k w : ℕ) → a ≤ w → MissedFrom a k w → a + k ≤ w
-missed-from a zero w h m = omega arith
-missed-from a (suc k) w h m = let l : a + k ≤ w = missed-from a k w h (m .0) in omega (arith, m .1)
-
 -- eight octets are written; some are stored anew, and a message is put behind them
 module _ {s d d₁ : List ℕ} {r : ℕ} (p : PutCode s d r d₁) (h : 12 ≤ length d) where
   pub stored : (i v : ℕ) → i < length s → PutCode (set s i v) d r (set d₁ (4 + i) v)
@@ -58,11 +49,6 @@ module _ {s d d₁ : List ℕ} {r : ℕ} (p : PutCode s d r d₁) (h : 12 ≤ le
         answer = n ∙ omega (arith, p .answer, length-append s m);
         written = e ∙ ap (λ (l : List ℕ). putAt l (4 + length s) m) (p .written) ∙ put-behind d s m 4 (omega arith);
       }
-
--- the length's octets of an event are those of its message
-pub length-octets : (e : List ℕ) → at e 11 < 256 → lengthAt e ≡ length (messageOf e) → (length (messageOf e) / 256 ≡ at e 10) × (length (messageOf e) % 256 ≡ at e 11)
-length-octets e b h =
-    (ap (λ (n : ℕ). n / 256) (sym h) ∙ high-same (at e 10) (at e 11) b, ap (λ (n : ℕ). n % 256) (sym h) ∙ low-same (at e 10) (at e 11) b)
 
 -- before them the mark, and the link's number as the event has it
 abbrev pub frontOf : List ℕ → List ℕ

@@ -41,6 +41,7 @@ pub fn message(e: &[u8]) -> &[u8]
     &e[HEAD..]
 }
 
+// The number of a record.
 fn number(e: &[u8]) -> Num
     requires { ⌜ headOctets ≤ length (now e) ⌝ }
     ensures { λ r. ⌜ r ≡ numberAt (now (e .entry)) ⌝ }

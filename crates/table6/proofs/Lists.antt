@@ -1,10 +1,9 @@
 -- A list as the values of a function, and a table as a `match` on a number: its arms are a list's elements, its last arm is for all the rest. Assumes nothing.
 use mathlib.Core.Path.{_≡_, refl, sym, _∙_, ap}
 use mathlib.Core.List.{List, [], _∷_}
-use mathlib.Core.Logic.{⊎-elim}
 use Prim.Native.Nat.{ℕ, zero, suc, _+_, _<_, _≤_}
 use native.Mathlib.Omega.{arith}
-use native.Mathlib.Nat.{add-zero, zero-add, add-suc, suc-add, le-of-suc-le-suc, not-suc-le-zero, eq-or-lt-of-le}
+use native.Mathlib.Nat.{add-zero, zero-add, add-suc, suc-add, le-of-suc-le-suc, not-suc-le-zero}
 use lib.ListN.{length, getD}
 use Rattle.table6.specs.Stored.{from}
 
@@ -18,19 +17,19 @@ pub alike {ℓ} : {A : Type ℓ} (f g : ℕ → A) (n : ℕ) (d : A) → from f 
 alike f g n d e k h =
     ap f (sym (zero-add k)) ∙ sym (getD-from f n 0 k d h) ∙ ap (λ l. getD l k d) e ∙ getD-from g n 0 k d h ∙ ap g (zero-add k)
 
--- none of the numbers below k
-abbrev pub Missed : ℕ → ℕ → Type 0
-Missed i zero = Unit {0}
-Missed i (suc k) = Missed i k × (i ≡ k → ⊥)
+-- none of the k numbers from a on
+abbrev pub MissedFrom : ℕ → ℕ → ℕ → Type 0
+MissedFrom a i zero = Unit {0}
+MissedFrom a i (suc k) = MissedFrom a i k × (i ≡ a + k → ⊥)
 
-missed : (n i : ℕ) → Missed i n → n ≤ i
-missed zero i m = omega arith
-missed (suc n) i m = ⊎-elim (λ e. absurd (m .1 (sym e))) (λ l. l) (eq-or-lt-of-le (missed n i (m .0)))
+pub missed-from : (a i k : ℕ) → a ≤ i → MissedFrom a i k → a + k ≤ i
+missed-from a i zero h m = omega arith
+missed-from a i (suc k) h m = let l : a + k ≤ i = missed-from a i k h (m .0) in omega (arith, m .1)
 
 pub past {ℓ} : {A : Type ℓ} (xs : List A) (i : ℕ) (d : A) → length xs ≤ i → d ≡ getD xs i d
 past [] i d h = refl
 past (x ∷ xs) zero d h = absurd (not-suc-le-zero h)
 past (x ∷ xs) (suc i) d h = past xs i d (le-of-suc-le-suc h)
 
-pub beyond {ℓ} : {A : Type ℓ} (xs : List A) (n i : ℕ) (d : A) → length xs ≡ n → Missed i n → d ≡ getD xs i d
-beyond xs n i d e m = past xs i d (rw e (missed n i m))
+pub beyond {ℓ} : {A : Type ℓ} (xs : List A) (n i : ℕ) (d : A) → length xs ≡ n → MissedFrom 0 i n → d ≡ getD xs i d
+beyond xs n i d e m = past xs i d (rw e (omega (arith, missed-from 0 i n (omega arith) m)))

@@ -1,20 +1,14 @@
 -- `events::fields` meets its contract: at each code what its fields come to, and past them none is left. Assumes nothing.
 use borrow.Author.Tests.{ne-eqb}
 use borrow.Author.Needs.{needs}
-use mathlib.Core.Path.{_≡_, refl, _∙_}
-use mathlib.Core.Bool.{true}
-use mathlib.Core.List.{List}
-use Prim.Native.Nat.{ℕ}
-use Rattle.record.specs.declared.events.Reading.{Reading}
+use mathlib.Core.Path.{refl, _∙_}
 use Rattle.record.specs.Octets.{at}
-use Rattle.record.specs.Frame.{lengthAt, paramAt, numberAt, messageOf}
-use Rattle.record.specs.EventRecord.{codedAt, fieldsOf}
-use Rattle.unit.specs.Unit.{arrived}
+use Rattle.record.specs.Frame.{lengthAt, paramAt, numberAt}
+use Rattle.record.specs.EventRecord.{codedAt}
 use Rattle.record.proofs.Frame.{at-most}
-use Rattle.record.proofs.EventRecord.{coded, at-code, no-code, bare, at-bare, at-1, at-7, at-16, at-17, at-18, at-20, at-23, at-24, at-39}
+use Rattle.record.proofs.EventRecord.{at-code, no-code, at-bare, at-1, at-7, at-16, at-17, at-18, at-20, at-23, at-24, at-39}
 use Rattle.record.proofs.events.fields.Statement.{statement}
 use Rattle.record.proofs.events.fields.Tie as tie
-use Rattle.record.proofs.events.bare.Reads as bare-reads
 
 shared-slice-read-match : tie.Need-shared-slice-read-match
 shared-slice-read-match c = search needs

@@ -3,8 +3,7 @@ use borrow.Author.Needs.{needs}
 use native.Mathlib.Omega.{arith}
 use Rattle.table6.specs.Cell.{MAAL-PROVING-indication}
 use Rattle.table6.specs.Stored.{words}
-use Rattle.table6.proofs.Lists.{past}
-use Rattle.record.proofs.SignalRecord.{missed-from}
+use Rattle.table6.proofs.Lists.{past, missed-from}
 use Rattle.record.proofs.signals.put_carrying.Statement.{statement}
 use Rattle.record.proofs.signals.put_carrying.Tie as tie
 
@@ -122,7 +121,7 @@ same-length-12 c = search needs
 returns-12 : tie.Need-returns-12
 returns-12 c =
     let w = c .before .before .before .before .before .before .before .before .before .args .w in
-    rw (← past words w MAAL-PROVING-indication (missed-from 36 11 w (omega arith) (c .before .before .before .before .match .rest))) (c .before .before .put-fixed .ensures)
+    rw (← past words w MAAL-PROVING-indication (missed-from 36 w 11 (omega arith) (c .before .before .before .before .match .rest))) (c .before .before .put-fixed .ensures)
 
 pub put-carrying-spec : {M : Type 1} → statement M
 put-carrying-spec =

@@ -5,7 +5,8 @@ use mathlib.Core.Path.{_∙_}
 use lib.ListN.{length-set, length-drop}
 use Rattle.record.specs.Octets.{at}
 use Rattle.record.specs.Frame.{messageOf}
-use Rattle.record.proofs.SignalRecord.{stored, with-body, length-octets}
+use Rattle.record.proofs.Frame.{length-octets}
+use Rattle.record.proofs.SignalRecord.{stored, with-body}
 use Rattle.record.proofs.signals.with_message.Statement.{statement}
 use Rattle.record.proofs.signals.with_message.Tie as tie
 

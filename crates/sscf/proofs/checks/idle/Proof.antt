@@ -1,5 +1,5 @@
 -- `checks::idle` meets its contract. Assumes nothing.
-use mathlib.Core.Path.{_≡_, refl, _∙_}
+use mathlib.Core.Path.{_≡_, refl}
 use mathlib.Core.Bool.{not, _&&_, _||_}
 use mathlib.Core.Logic.{⊎-elim}
 use lib.Dec.{eqb}
