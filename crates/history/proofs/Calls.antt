@@ -16,12 +16,12 @@ use Rattle.link.specs.Fresh.{freshLink}
 use Rattle.link.specs.Step as machine
 use Rattle.link.specs.Stored.{viewOf}
 use Rattle.record.specs.LinkRecord.{linkOf, octetsOf}
-use Rattle.record.specs.Frame.{EV, linkAt, codeAt, paramAt, numberAt, lengthAt, messageOf}
-use Rattle.record.specs.EventRecord.{Coded, codedIn, said, eventOf, misfit}
-use Rattle.record.specs.SignalRecord.{signalOctets, joined}
+use Rattle.event.specs.Frame.{EV, linkAt, codeAt, paramAt, numberAt, lengthAt, messageOf}
+use Rattle.event.specs.EventRecord.{Coded, codedIn, said, eventOf, misfit}
+use Rattle.signal.specs.SignalRecord.{signalOctets, joined}
 use Rattle.record.proofs.LinkRecord.{unpacked, octets-length}
-use Rattle.record.proofs.Frame.{message-length}
-use Rattle.record.proofs.SignalRecord.{signals-apart}
+use Rattle.event.proofs.Frame.{message-length}
+use Rattle.signal.proofs.SignalRecord.{signals-apart}
 use Rattle.sscf.specs.Checks.{Verdict, passed, refused, first}
 use Rattle.sscf.specs.Step.{records, recordAt, linkFor, unknown, checks, Outcome, stepCall}
 use Rattle.sscf.specs.Fresh as maker

@@ -9,7 +9,7 @@ use borrow.Author.Tests.{eqb-true, eqb-false}
 use Rattle.unit.specs.declared.Arrived.{Arrived}
 use Rattle.link.specs.declared.Num.{Num}
 use Rattle.link.specs.Stored.{dataRowOf, viewOf}
-use Rattle.record.specs.EventRecord.{Code, codes, Coded, among, codedAt, Each}
+use Rattle.event.specs.EventRecord.{Code, codes, Coded, among, codedAt, Each}
 use Rattle.history.proofs.Walk.{Kind, Of}
 use Rattle.history.proofs.Table.{Sort, plain, sortAt}
 

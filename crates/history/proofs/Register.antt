@@ -11,7 +11,7 @@ use Rattle.unit.specs.declared.Mps.{Mps}
 use Rattle.unit.proofs.Proving.{forced-normal}
 use Rattle.table6.specs.declared.State.{State}
 use Rattle.table6.proofs.Every.{left, right}
-use Rattle.record.specs.Octets.{at}
+use Rattle.octet.specs.Octets.{at}
 use Rattle.record.specs.LinkRecord.{stateCode, octetsOf}
 use Rattle.sscf.specs.Step.{recordAt}
 use Rattle.history.specs.History.{Mark, edge, provingSent, inService, Somewhere, count, Stands, Connection, since, begun, mps, ups, field, decided, Served, history}

@@ -30,8 +30,8 @@ use Rattle.link.specs.Step.{Outcome, Illegal, Legal, stepOf}
 use Rattle.link.specs.Stored.{viewOf, meetingOf, factsOf, counted, summedUp}
 use Rattle.link.proofs.Performed.{outcomeOf, as-met}
 use Rattle.record.specs.LinkRecord.{mpsAt, upsAt}
-use Rattle.record.specs.Frame.{written}
-use Rattle.record.specs.SignalRecord.{bodyOf, signalOctets}
+use Rattle.event.specs.Frame.{written}
+use Rattle.signal.specs.SignalRecord.{bodyOf, signalOctets}
 use Rattle.history.specs.History.{Mark, accepted, emitted, with-signals, mps, ups}
 use Rattle.history.specs.Tests.{stands, alive, sent, due, toldIns, heardIns}
 use Rattle.history.proofs.Lawful.{lawful}

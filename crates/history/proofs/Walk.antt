@@ -16,7 +16,7 @@ use Rattle.unit.specs.Proving.{asked, table7}
 use Rattle.unit.proofs.Proving.{forced-emergency}
 use Rattle.table6.specs.Summary.{Op, keep, put, over}
 use Rattle.link.specs.declared.Carries.{Carries}
-use Rattle.record.specs.SignalRecord.{bodyOf}
+use Rattle.signal.specs.SignalRecord.{bodyOf}
 use Rattle.history.specs.History.{Mark, accepted, emitted, isNM, isINS, edge, mps, ups, field}
 use Rattle.history.specs.Tests.{from, stands, alive, sent, due, toldIns, heardIns}
 use Rattle.history.proofs.Lawful.{isEmergency, lawful}

@@ -4,11 +4,11 @@ use Rattle.unit.specs.Unit.{unitOf, kind, arrived, decoded}
 use Rattle.unit.specs.Proving.{asked, table7, table8}
 use Rattle.table6.specs.Table6.{AAL-START-request, AAL-STOP-request, AAL-EMERGENCY-request, AA-ESTABLISH-indication-with-EM-NM, AA-ESTABLISH-confirm-with-EM-NM, AA-RELEASE-indication-from-User, AA-RELEASE-indication-from-SSCOP, AA-DATA-indication-with-INS, MAAL-RELEASE-request, MAAL-FORCE-EMERGENCY-request, T1-expires, T3-expires-and-C1>0, T3-expires-and-C1=0}
 use Rattle.link.specs.Step.{stepOf}
-use Rattle.record.specs.Octets.{over, putAt}
+use Rattle.octet.specs.Octets.{over, putAt}
 use Rattle.record.specs.LinkRecord.{octetsOf, linkOf, wellFormed}
-use Rattle.record.specs.Frame.{written, framedAs}
-use Rattle.record.specs.EventRecord.{codedAt, misfit}
-use Rattle.record.specs.SignalRecord.{joined}
+use Rattle.event.specs.Frame.{written, framedAs}
+use Rattle.event.specs.EventRecord.{codedAt, misfit}
+use Rattle.signal.specs.SignalRecord.{joined}
 use Rattle.sscf.specs.Step.{stepCall}
 use Rattle.sscf.specs.Fresh.{freshCall}
 use Rattle.history.specs.Calls.{next, run}

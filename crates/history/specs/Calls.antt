@@ -5,7 +5,7 @@ use mathlib.Core.Bool.{cond}
 use mathlib.Core.List.{List, [], _∷_}
 use lib.Dec.{eqb}
 use lib.ListN.{take, drop}
-use Rattle.record.specs.Frame.{headOctets, lengthAt}
+use Rattle.event.specs.Frame.{headOctets, lengthAt}
 use Rattle.sscf.specs.Step.{records, Outcome, stepCall}
 use Rattle.sscf.specs.Fresh.{freshCall}
 

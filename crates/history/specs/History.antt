@@ -9,7 +9,7 @@ use Rattle.unit.specs.declared.Mps.{Mps}
 use Rattle.unit.specs.declared.Ups.{Ups}
 use Rattle.unit.specs.Unit.{arrived}
 use Rattle.unit.specs.Proving.{asked, table7}
-use Rattle.record.specs.Frame.{linkAt, codeAt, paramAt, messageOf}
+use Rattle.event.specs.Frame.{linkAt, codeAt, paramAt, messageOf}
 use Rattle.history.specs.Calls.{Seen, World}
 
 -- An event that was accepted or a signal that was emitted, as its octets say: code, parameter, and what its message is by clause 10.

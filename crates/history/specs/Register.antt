@@ -3,7 +3,7 @@ use Prim.Native.Nat.{_≤_}
 use mathlib.Core.Path.{_≡_}
 use mathlib.Core.Logic.{_↔_}
 use Rattle.unit.specs.declared.Mps.{Mps}
-use Rattle.record.specs.Octets.{at}
+use Rattle.octet.specs.Octets.{at}
 use Rattle.sscf.specs.Step.{recordAt}
 use Rattle.history.specs.Calls.{AfterEachCall}
 use Rattle.history.specs.History.{history, provingSent, inService, Somewhere, count, Stands, Connection, since, begun, mps, Served}

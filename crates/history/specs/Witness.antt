@@ -9,7 +9,7 @@ use lib.ListN.{length, replicate}
 use Rattle.unit.specs.declared.Status.{Status}
 use Rattle.unit.specs.Unit.{code, unitOf}
 use Rattle.link.specs.Signal.{none, num}
-use Rattle.record.specs.Frame.{EV, written}
+use Rattle.event.specs.Frame.{EV, written}
 use Rattle.sscf.specs.Step.{records}
 use Rattle.sscf.specs.Fresh.{freshCall}
 use Rattle.history.specs.Calls.{Call, fresh, step, World, made, run}

@@ -7,7 +7,7 @@ use native.Mathlib.Omega.{arith}
 use lib.Dec.{ltb}
 use lib.ListN.{length}
 use borrow.Author.Tests.{ltb-false}
-use Rattle.record.specs.Frame.{lengthAt}
+use Rattle.event.specs.Frame.{lengthAt}
 use Rattle.lines.specs.Lines.{firstRecord}
 
 by-tests : (a b : Bool) (n len : ℕ) → (b ≡ false → 12 + len ≤ n) → (cond a 0 (cond b 0 (12 + len)) ≡ 0 → ⊥) → (12 ≤ cond a 0 (cond b 0 (12 + len))) × (cond a 0 (cond b 0 (12 + len)) ≤ n)

@@ -9,8 +9,8 @@ use lib.Dec.{eqb, ltb}
 use lib.ListN.{length, take, drop, getD, set, length-append}
 use lib.Seq.{length-take-le, take-suc, set-split, drop-at}
 use borrow.Author.Tests.{ne-eqb, lt-ltb}
-use Rattle.record.specs.Octets.{putAt}
-use Rattle.record.proofs.Over.{put-behind}
+use Rattle.octet.specs.Octets.{putAt}
+use Rattle.octet.proofs.Over.{put-behind}
 use Rattle.lines.specs.Text.{before, decimal, digit, hexadecimal, Added}
 
 -- DECIMAL

@@ -6,9 +6,9 @@ use lib.Dec.{eqb, ltb}
 use lib.ListN.{length}
 use Rattle.table6.specs.declared.State.{State}
 use Rattle.record.specs.declared.Slot.{Slot}
-use Rattle.record.specs.Octets.{at}
+use Rattle.octet.specs.Octets.{at}
 use Rattle.record.specs.LinkRecord.{slotOf}
-use Rattle.record.specs.Frame.{headOctets, linkAt, codeAt, paramAt, lengthAt, messageOf}
+use Rattle.event.specs.Frame.{headOctets, linkAt, codeAt, paramAt, lengthAt, messageOf}
 use Rattle.lines.specs.Text.{ascii, decimal, hexadecimal, line}
 
 -- "Per event it prints E, ordinal, link, event code, refusal, signals"; "a refusal 2 prints link and code as 0".

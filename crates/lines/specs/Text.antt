@@ -6,7 +6,7 @@ use mathlib.Core.Bool.{cond}
 use mathlib.Core.List.{List, [], _∷_, _++_}
 use lib.Dec.{eqb, ltb}
 use lib.ListN.{length}
-use Rattle.record.specs.Octets.{putAt}
+use Rattle.octet.specs.Octets.{putAt}
 
 abbrev pub ascii : List Char → List ℕ
 ascii [] = []

@@ -1,9 +1,9 @@
 // The lines of document 01's trace, as text in a buffer.
 pub mod text;
 
+use event::HEAD;
+use event::message;
 use record::Slot;
-use record::events::HEAD;
-use record::events::message;
 use table6::State;
 use text::add;
 use text::add_hexadecimal;
@@ -12,7 +12,7 @@ ghost use mathlib.Core.Path.{_≡_};
 ghost use mathlib.Core.List.{_∷_, [], _++_};
 ghost use Prim.Native.Nat.{_+_, _*_, _≤_};
 ghost use lib.ListN.{length};
-ghost use Rattle.record.specs.Frame.{headOctets};
+ghost use Rattle.event.specs.Frame.{headOctets};
 ghost use Rattle.lines.specs.Text.{decimal, Added};
 ghost use Rattle.lines.specs.Lines.{firstRecord, shown, eventLine, dotted, messageText, signalLine, stateName, slotText, linkLine};
 
@@ -34,8 +34,8 @@ pub fn event_line(text: &mut [u8], ordinal: u64, e: &[u8], refusal: u32, signals
     requires { ⌜ (headOctets ≤ length (now e)) × (128 ≤ length (now text)) ⌝ }
     ensures { λ r. ⌜ Added (eventLine ordinal (now (e .entry)) refusal signals) (now (text .entry)) 0 r (now (text .exit)) × (r ≤ 128) ⌝ }
 {
-    let link = shown_as(refusal, record::wide(e[2], e[3]));
-    let code = shown_as(refusal, record::wide(0, e[4]));
+    let link = shown_as(refusal, octet::wide(e[2], e[3]));
+    let code = shown_as(refusal, octet::wide(0, e[4]));
     let a = add(text, 0, b"E ");
     let b = add_number(text, a, ordinal, SPACE);
     let c = add_number(text, b, link as u64, SPACE);
@@ -51,7 +51,7 @@ pub fn first_record(octets: &[u8]) -> usize
     if octets.len() < HEAD {
         return 0;
     }
-    let n = HEAD + record::wide(octets[10], octets[11]) as usize;
+    let n = HEAD + octet::wide(octets[10], octets[11]) as usize;
     if octets.len() < n { 0 } else { n }
 }
 

@@ -1,6 +1,6 @@
 // Text added to a buffer from a place on: octets, numbers in decimal, octets in hexadecimal.
 
-use record::writing::put_at;
+use octet::put_at;
 ghost use mathlib.Core.Path.{_≡_};
 ghost use mathlib.Core.List.{_∷_, [], _++_};
 ghost use Prim.Native.Nat.{_+_, _*_, _≤_, _<_};

@@ -1,8 +1,2 @@
-pub mod Branches
-pub mod EventRecord
-pub mod Frame
 pub mod LinkRecord
-pub mod Octets
 pub mod OneAnswer
-pub mod Over
-pub mod SignalRecord

@@ -2,7 +2,7 @@
 use mathlib.Core.Path.{_≡_, refl, sym, ap, _∙_}
 use mathlib.Core.Bool.{Bool, true, false, cond, _&&_, _||_, and-true, and-false, and-assoc, true≢false}
 use mathlib.Core.List.{List, [], _∷_}
-use Prim.Native.Nat.{ℕ, zero, suc, _+_, _*_, _/_, _%_, _<_, _≤_}
+use Prim.Native.Nat.{ℕ, zero, suc, _+_, _*_, _/_, _%_, _≤_}
 use native.Mathlib.Omega.{arith}
 use native.Mathlib.Nat.{div-add-mod'}
 use lib.Dec.{eqb, leb}
@@ -21,8 +21,8 @@ use Rattle.link.specs.Signal.{none}
 use Rattle.record.specs.declared.Slot.{Slot}
 use Rattle.record.specs.declared.SomeState.{SomeState}
 use Rattle.record.specs.declared.SomeMps.{SomeMps}
-use Rattle.record.specs.Octets.{Octets, at, two, bit}
-use Rattle.record.proofs.Octets.{bit-le}
+use Rattle.octet.specs.Octets.{Octets, at, two, bit}
+use Rattle.octet.proofs.Octets.{bit-le, octet-at, high-same, low-same}
 use Rattle.record.specs.LinkRecord.{stateCode, stateAt, someState, mpsAt, someMps, upsAt, octetsOf, linkOf, wellFormed, restFormed, slotOf, Unpacked, PackedWell, UnpackedGood, Repacked}
 
 state-back : (s : State) → stateAt (stateCode s) ≡ s
@@ -184,12 +184,6 @@ timers-same c h = alike (λ k. bit (eqb (k % 2) 1) + 2 * bit (eqb (k / 2 % 2) 1)
 known-same : (c : ℕ) → c ≤ 1 → bit (eqb c 1) ≡ c
 known-same c h = alike (λ k. bit (eqb k 1)) (λ k. k) 2 0 refl c (omega arith)
 
-pub high-same : (a b : ℕ) → b < 256 → (a * 256 + b) / 256 ≡ a
-high-same a b h = omega arith
-
-pub low-same : (a b : ℕ) → b < 256 → (a * 256 + b) % 256 ≡ b
-low-same a b h = omega arith
-
 -- the twelve tests of a well-formed record, one by one
 parts : (a b c d e f g h i j k m : Bool) → a && b && c && d && e && f && g && h && i && j && k && m ≡ true →
     (a ≡ true) × (b ≡ true) × (c ≡ true) × (d ≡ true) × (e ≡ true) × (f ≡ true) × (g ≡ true) × (h ≡ true) × (i ≡ true) × (j ≡ true) × (k ≡ true) × (m ≡ true)
@@ -253,11 +247,6 @@ unpacked-good r w =
           let c = eqb-true (at r 10) 0 (n .2) in
           λ i. record { a = a i; b = b i; c = c i },
     )
-
-pub octet-at : (r : List ℕ) → Octets r → (i : ℕ) → at r i < 256
-octet-at [] o i = omega arith
-octet-at (x ∷ r) o zero = o .0
-octet-at (x ∷ r) o (suc i) = octet-at r (o .1) i
 
 pub repacked : Repacked
 unfolding octetsOf linkOf

@@ -1,5 +1,1 @@
-pub mod Octets
 pub mod LinkRecord
-pub mod Frame
-pub mod EventRecord
-pub mod SignalRecord

@@ -14,7 +14,7 @@ use Rattle.link.specs.Kept.{NoneIsZero}
 use Rattle.record.specs.declared.Slot.{Slot}
 use Rattle.record.specs.declared.SomeState.{SomeState}
 use Rattle.record.specs.declared.SomeMps.{SomeMps}
-use Rattle.record.specs.Octets.{Octets, at, two, bit}
+use Rattle.octet.specs.Octets.{Octets, at, two, bit}
 
 abbrev pub recordOctets : ℕ
 recordOctets = 16

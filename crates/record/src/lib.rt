@@ -1,20 +1,15 @@
-// The records of document 01 as octets: a link's sixteen, and back; an event's, read; a signal's, written.
-pub mod events;
-pub mod signals;
-pub mod writing;
-
+// The link record of document 01: sixteen octets, and back.
 use link::Bsnt;
 use link::Link;
 use link::Num;
+use octet::marked;
+use octet::wide;
 use table6::State;
 use unit::Mps;
 use unit::Ups;
 ghost use mathlib.Core.Path.{_≡_};
-ghost use Prim.Native.Nat.{_+_, _*_, _≤_};
-ghost use mathlib.Core.Bool.{_&&_};
-ghost use lib.Dec.{eqb};
 ghost use lib.ListN.{length};
-ghost use Rattle.record.specs.Octets.{at, two, bit};
+ghost use Rattle.octet.specs.Octets.{at, bit};
 ghost use Rattle.record.specs.LinkRecord.{stateCode, stateAt, someState, mpsAt, someMps, upsAt, octetsOf, linkOf, restFormed, slotOf};
 
 // The octets of a link's record.
@@ -22,13 +17,6 @@ pub const RECORD: usize = 16;
 
 // The mark of a link's record.
 pub const LK: [u8; 2] = *b"LK";
-
-// Two octets as a number, the higher first.
-pub fn wide(a: u8, b: u8) -> u16
-    ensures { λ r. ⌜ r ≡ two a b ⌝ }
-{
-    a as u16 * 256 + b as u16
-}
 
 fn bit_of(b: bool) -> u8
     ensures { λ r. ⌜ r ≡ bit b ⌝ }
@@ -125,14 +113,6 @@ pub fn pack(l: Link) -> [u8; 16]
         (l.n1 / 256) as u8,
         (l.n1 % 256) as u8,
     ]
-}
-
-// Whether octets begin with a mark.
-fn marked(r: &[u8], mark: &[u8; 2]) -> bool
-    requires { ⌜ 2 ≤ length (now r) ⌝ }
-    ensures { λ b. ⌜ b ≡ (eqb (at (now (r .entry)) 0) (at (now (mark .entry)) 0) && eqb (at (now (r .entry)) 1) (at (now (mark .entry)) 1)) ⌝ }
-{
-    (r[0] == mark[0]) & (r[1] == mark[1])
 }
 
 // Whether all is well-formed but state and MPS.

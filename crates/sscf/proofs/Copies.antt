@@ -4,8 +4,8 @@ use mathlib.Core.List.{List, _++_, append-assoc, append-nil}
 use Prim.Native.Nat.{ℕ, zero, suc, _+_, _*_, _/_, _%_, _≤_}
 use native.Mathlib.Omega.{arith}
 use lib.ListN.{length, length-append, drop-of-length-le}
-use Rattle.record.specs.Octets.{over, putAt}
-use Rattle.record.proofs.Over.{behind}
+use Rattle.octet.specs.Octets.{over, putAt}
+use Rattle.octet.proofs.Over.{behind}
 use Rattle.sscf.specs.Fresh.{copies}
 
 pub length-copies : (n : ℕ) (r : List ℕ) → length r ≡ 16 → length (copies n r) ≡ 16 * n

@@ -7,7 +7,7 @@ use mathlib.Core.List.{List, [], _∷_}
 use lib.Dec.{eqb, ltb}
 use lib.ListN.{length, length-take, length-drop}
 use borrow.Author.Tests.{eqb-true, not-false}
-use Rattle.record.proofs.EventRecord.{neither}
+use Rattle.event.proofs.EventRecord.{neither}
 use Rattle.sscf.specs.declared.checks.Refusal.{Refusal}
 use Rattle.sscf.specs.Checks.{Check, Verdict, passed, refused, first}
 use Rattle.sscf.specs.Step.{badTable, records, recordAt}

@@ -11,13 +11,13 @@ use Rattle.link.specs.declared.Signal.{Signal}
 use Rattle.link.specs.Step as machine
 use Rattle.link.specs.Kept.{Keeps, After}
 use Rattle.link.proofs.Kept.{kept}
-use Rattle.record.specs.Octets.{over, putAt}
+use Rattle.octet.specs.Octets.{over, putAt}
 use Rattle.record.specs.LinkRecord.{octetsOf}
-use Rattle.record.specs.Frame.{EV, linkAt, messageOf}
-use Rattle.record.specs.EventRecord.{framed, eventOf}
-use Rattle.record.specs.SignalRecord.{joined}
-use Rattle.record.proofs.Frame.{sound, message-length}
-use Rattle.record.proofs.SignalRecord.{joined-small}
+use Rattle.event.specs.Frame.{EV, linkAt, messageOf}
+use Rattle.event.specs.EventRecord.{framed, eventOf}
+use Rattle.signal.specs.SignalRecord.{joined}
+use Rattle.event.proofs.Frame.{sound, message-length}
+use Rattle.signal.proofs.SignalRecord.{joined-small}
 use Rattle.sscf.specs.declared.checks.Refusal.{Refusal}
 use Rattle.sscf.specs.Checks.{passed, refused, first}
 use Rattle.sscf.specs.Step.{records, linkFor, checks, answered, answering, refusedBy, stepCall}

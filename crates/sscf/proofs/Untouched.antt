@@ -11,12 +11,12 @@ use borrow.Author.Tests.{eqb-true, eqb-false, ltb-true, ltb-false, le-ltb}
 use Rattle.link.specs.declared.Link.{Link}
 use Rattle.link.specs.declared.Signal.{Signal}
 use Rattle.link.specs.Step as machine
-use Rattle.record.specs.Octets.{over, putAt}
+use Rattle.octet.specs.Octets.{over, putAt}
 use Rattle.record.specs.LinkRecord.{wellFormed, octetsOf, GoodLink}
-use Rattle.record.specs.Frame.{linkAt, messageOf}
-use Rattle.record.specs.EventRecord.{eventOf}
-use Rattle.record.specs.SignalRecord.{joined}
-use Rattle.record.proofs.Over.{length-over, over-front, over-rest, length-put, put-there, put-before, put-after}
+use Rattle.event.specs.Frame.{linkAt, messageOf}
+use Rattle.event.specs.EventRecord.{eventOf}
+use Rattle.signal.specs.SignalRecord.{joined}
+use Rattle.octet.proofs.Over.{length-over, over-front, over-rest, length-put, put-there, put-before, put-after}
 use Rattle.record.proofs.LinkRecord.{octets-length, packed-well, unpacked-good}
 use Rattle.sscf.specs.declared.checks.Refusal.{Refusal}
 use Rattle.sscf.specs.Checks.{number, Verdict, passed, refused, first}

@@ -5,9 +5,9 @@ use mathlib.Core.List.{List}
 use Rattle.link.specs.Step as machine
 use Rattle.link.specs.Stored.{signalsOf}
 use Rattle.sscf.specs.declared.checks.Plan.{Plan}
-use Rattle.record.specs.Frame.{linkAt}
+use Rattle.event.specs.Frame.{linkAt}
 use Rattle.sscf.specs.Checks.{Check, passed, refused, first}
-use Rattle.record.specs.EventRecord.{eventOf}
+use Rattle.event.specs.EventRecord.{eventOf}
 use Rattle.sscf.specs.Step.{linkFor}
 
 -- A plan after some of the checks of a step.

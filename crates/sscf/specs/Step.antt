@@ -6,11 +6,11 @@ use lib.Dec.{eqb, leb, ltb}
 use lib.ListN.{length, take, drop}
 use Rattle.link.specs.declared.Link.{Link}
 use Rattle.link.specs.Step as machine
-use Rattle.record.specs.Octets.{over, putAt}
+use Rattle.octet.specs.Octets.{over, putAt}
 use Rattle.record.specs.LinkRecord.{recordOctets, wellFormed, linkOf, octetsOf}
-use Rattle.record.specs.Frame.{headOctets, messageOctets, linkAt, codeAt, paramAt, numberAt, lengthAt, messageOf}
-use Rattle.record.specs.EventRecord.{framed, Coded, codedIn, eventOf, misfit}
-use Rattle.record.specs.SignalRecord.{joined}
+use Rattle.event.specs.Frame.{headOctets, messageOctets, linkAt, codeAt, paramAt, numberAt, lengthAt, messageOf}
+use Rattle.event.specs.EventRecord.{framed, Coded, codedIn, eventOf, misfit}
+use Rattle.signal.specs.SignalRecord.{joined}
 use Rattle.sscf.specs.declared.Answer.{Answer}
 use Rattle.sscf.specs.declared.checks.Refusal.{Refusal}
 use Rattle.sscf.specs.Checks.{number, Check, _if_, Verdict, passed, refused, first}

@@ -9,9 +9,9 @@ use Rattle.link.specs.declared.Signal.{Signal}
 use Rattle.link.specs.Fresh.{freshLink}
 use Rattle.link.specs.Step as machine
 use Rattle.record.specs.LinkRecord.{wellFormed, octetsOf}
-use Rattle.record.specs.Frame.{linkAt, messageOf}
-use Rattle.record.specs.EventRecord.{eventOf}
-use Rattle.record.specs.SignalRecord.{joined}
+use Rattle.event.specs.Frame.{linkAt, messageOf}
+use Rattle.event.specs.EventRecord.{eventOf}
+use Rattle.signal.specs.SignalRecord.{joined}
 use Rattle.sscf.specs.Step.{records, recordAt, linkFor, answered, answering, Outcome, stepCall}
 use Rattle.sscf.specs.Fresh.{freshCall}
 

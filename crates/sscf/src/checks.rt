@@ -1,17 +1,16 @@
 // Document 01's checks, in its order: the first that holds refuses the call.
 
+use event::Reading;
 use link::Link;
 use link::Reply;
 use link::Said;
 use record::RECORD;
 use record::Slot;
-use record::events;
-use record::events::Reading;
 ghost use mathlib.Core.Path.{_≡_};
 ghost use Prim.Native.Nat.{_≤_, _<_};
 ghost use lib.ListN.{length, drop};
 ghost use Rattle.record.specs.LinkRecord.{slotOf};
-ghost use Rattle.record.specs.Frame.{headOctets};
+ghost use Rattle.event.specs.Frame.{headOctets};
 ghost use Rattle.sscf.specs.Checks.{number};
 ghost use Rattle.sscf.specs.Step.{badTable, records, recordAt, idle, checks};
 ghost use Rattle.sscf.specs.Plan.{Planned};
@@ -87,7 +86,7 @@ fn link_plan(t: &[u8], e: &[u8], room: usize) -> Plan
     requires { ⌜ headOctets ≤ length (now e) ⌝ }
     ensures { λ r. ⌜ Planned (drop 4 (checks (now (t .entry)) (now (e .entry)) room)) (now (t .entry)) (now (e .entry)) r ⌝ }
 {
-    let k = events::link(e);
+    let k = event::link(e);
     if t.len() / RECORD <= k as usize {
         return Plan::Refused(Refusal::Link);
     }
@@ -97,7 +96,7 @@ fn link_plan(t: &[u8], e: &[u8], room: usize) -> Plan
             if idle(l, e[4]) {
                 return Plan::Refused(Refusal::Timer);
             }
-            let turn = link::stepped(l, events::event(e));
+            let turn = link::stepped(l, event::event(e));
             let next = turn.link;
             let reply = turn.reply;
             match reply {
@@ -124,7 +123,7 @@ pub fn planned(t: &[u8], e: &[u8], room: usize) -> Plan
     if bad_table(t) {
         return Plan::Refused(Refusal::Table);
     }
-    match events::read_event(e) {
+    match event::read_event(e) {
         Reading::BadFrame => Plan::Refused(Refusal::Frame),
         Reading::UnknownCode => Plan::Refused(Refusal::Code),
         Reading::Misfit => Plan::Refused(Refusal::Field),

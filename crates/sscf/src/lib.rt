@@ -3,9 +3,9 @@ mod checks;
 
 use checks::Plan;
 use checks::Refusal;
+use octet::put_at;
 use record::RECORD;
-use record::signals::put_all;
-use record::writing::put_at;
+use signal::put_all;
 ghost use mathlib.Core.Path.{_≡_};
 ghost use Prim.Native.Nat.{_%_};
 ghost use lib.ListN.{length};

@@ -1,9 +1,9 @@
 // Document 01's trace: a table and events from standard input, and on standard output what each event comes to. Only reading and writing are here: what an event does
 // comes from `sscf`, and what is written of it from `lines`.
 
+use event::HEAD;
+use event::MESSAGE;
 use record::RECORD;
-use record::events::HEAD;
-use record::events::MESSAGE;
 ghost use mathlib.Core.Path.{_≡_};
 ghost use Prim.Native.Nat.{_≤_};
 ghost use lib.ListN.{length};
@@ -21,7 +21,7 @@ fn read_table(table: &mut [u8]) -> usize
     if io::read_full(IN, &mut count) < 2 {
         return 0;
     }
-    let octets = record::wide(count[0], count[1]) as usize * RECORD;
+    let octets = octet::wide(count[0], count[1]) as usize * RECORD;
     if 4096 < octets {
         return 0;
     }
@@ -40,7 +40,7 @@ fn read_event(event: &mut [u8]) -> usize
     if got != HEAD {
         return got;
     }
-    let len = record::wide(event[10], event[11]);
+    let len = octet::wide(event[10], event[11]);
     if MESSAGE < len {
         return HEAD;
     }

@@ -5,7 +5,7 @@ use Prim.Native.Nat.{ℕ}
 use native.Mathlib.Nat.{zero-add}
 use native.Mathlib.Omega.{arith}
 use borrow.Author.Needs.{needs}
-use Rattle.record.specs.Frame.{linkAt, codeAt}
+use Rattle.event.specs.Frame.{linkAt, codeAt}
 use Rattle.lines.specs.Text.{decimal}
 use Rattle.lines.specs.Lines.{shown}
 use Rattle.lines.proofs.Texts.{added-then, added-as}

@@ -4,7 +4,7 @@ use Prim.Native.Nat.{ℕ, _+_, _≤_, _<_}
 use lib.ListN.{length}
 use borrow.Author.Tests.{lt-ltb, le-ltb}
 use borrow.Author.Needs.{needs}
-use Rattle.record.specs.Frame.{lengthAt}
+use Rattle.event.specs.Frame.{lengthAt}
 use Rattle.lines.proofs.first_record.Statement.{statement}
 use Rattle.lines.proofs.first_record.Tie as tie
 

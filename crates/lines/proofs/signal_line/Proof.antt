@@ -5,8 +5,8 @@ use Prim.Native.Nat.{ℕ, _+_, _*_, _≤_}
 use lib.ListN.{length, length-drop}
 use native.Mathlib.Omega.{arith}
 use borrow.Author.Needs.{needs}
-use Rattle.record.specs.Octets.{at}
-use Rattle.record.specs.Frame.{codeAt, paramAt, messageOf}
+use Rattle.octet.specs.Octets.{at}
+use Rattle.event.specs.Frame.{codeAt, paramAt, messageOf}
 use Rattle.lines.specs.Text.{decimal}
 use Rattle.lines.specs.Lines.{dotted, messageText}
 use Rattle.lines.proofs.Texts.{hexadecimal-length, added-then, added-as}

@@ -4,7 +4,7 @@ use mathlib.Core.List.{List, _∷_}
 use Prim.Native.Nat.{ℕ, _+_, _*_}
 use native.Mathlib.Omega.{arith}
 use Rattle.record.specs.LinkRecord.{octetsOf}
-use Rattle.record.proofs.Octets.{bit-le}
+use Rattle.octet.proofs.Octets.{bit-le}
 use borrow.Author.Needs.{needs}
 use Rattle.record.proofs.pack.Statement.{statement}
 use Rattle.record.proofs.pack.Tie as tie

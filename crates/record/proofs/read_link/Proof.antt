@@ -9,7 +9,7 @@ use Rattle.link.specs.declared.Link.{Link}
 use Rattle.record.specs.declared.Slot.{Slot}
 use Rattle.record.specs.declared.SomeState.{SomeState}
 use Rattle.record.specs.declared.SomeMps.{SomeMps}
-use Rattle.record.specs.Octets.{at}
+use Rattle.octet.specs.Octets.{at}
 use Rattle.record.specs.LinkRecord.{linkOf, wellFormed, slotOf}
 use Rattle.record.proofs.LinkRecord.{StateTold, state-tells, MpsTold, mps-tells, no-state, no-mps, the-rest}
 use borrow.Author.Needs.{needs}

@@ -4,9 +4,9 @@ use mathlib.Core.Path.{_≡_, refl, _∙_}
 use mathlib.Core.Bool.{_&&_, _||_}
 use mathlib.Core.Logic.{⊎-elim}
 use lib.Dec.{eqb, leb}
-use Rattle.record.specs.Octets.{at, two}
+use Rattle.octet.specs.Octets.{at, two}
 use Rattle.record.specs.LinkRecord.{restFormed}
-use Rattle.record.proofs.Branches.{on, off}
+use Rattle.octet.proofs.Branches.{on, off}
 use Rattle.record.proofs.rest_formed.Statement.{statement}
 use Rattle.record.proofs.rest_formed.Tie as tie
 

@@ -5,8 +5,8 @@ use Prim.Native.Nat.{ℕ, _+_, _-_, _/_, _%_, _≤_, _<_}
 use native.Mathlib.Omega.{arith}
 use lib.ListN.{length}
 use borrow.Author.Needs.{needs}
-use Rattle.record.specs.Octets.{over, putAt}
-use Rattle.record.proofs.Over.{length-over}
+use Rattle.octet.specs.Octets.{over, putAt}
+use Rattle.octet.proofs.Over.{length-over}
 use Rattle.sscf.specs.Fresh.{copies}
 use Rattle.sscf.proofs.Copies.{length-copies, one-copy-more, all-copies}
 use Rattle.sscf.proofs.fill.Statement.{statement}

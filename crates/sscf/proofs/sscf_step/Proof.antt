@@ -8,11 +8,11 @@ use borrow.Author.Needs.{needs}
 use Rattle.link.specs.declared.Link.{Link}
 use Rattle.link.specs.declared.Signal.{Signal}
 use Rattle.link.specs.Stored.{signalsOf}
-use Rattle.record.specs.Octets.{putAt}
+use Rattle.octet.specs.Octets.{putAt}
 use Rattle.record.specs.LinkRecord.{recordOctets, octetsOf}
-use Rattle.record.specs.Frame.{EV, linkAt, messageOf}
-use Rattle.record.specs.SignalRecord.{joined}
-use Rattle.record.proofs.Frame.{sound, message-length}
+use Rattle.event.specs.Frame.{EV, linkAt, messageOf}
+use Rattle.signal.specs.SignalRecord.{joined}
+use Rattle.event.proofs.Frame.{sound, message-length}
 use Rattle.sscf.specs.declared.checks.Plan.{Plan}
 use Rattle.sscf.specs.Step.{checks, answered, answering}
 use Rattle.sscf.specs.Plan.{Planned}

@@ -6,7 +6,7 @@ use native.Mathlib.Omega.{arith}
 use lib.ListN.{length, take, getD}
 use lib.Seq.{take-length}
 use borrow.Author.Needs.{needs}
-use Rattle.record.proofs.Over.{put-nothing, length-put}
+use Rattle.octet.proofs.Over.{put-nothing, length-put}
 use Rattle.lines.specs.Text.{digit, hexadecimal, Added}
 use Rattle.lines.proofs.Texts.{hexadecimal-next, added-then}
 use Rattle.lines.proofs.text.add_hexadecimal.Statement.{statement}

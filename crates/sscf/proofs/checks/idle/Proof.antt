@@ -4,7 +4,7 @@ use mathlib.Core.Bool.{not, _&&_, _||_}
 use mathlib.Core.Logic.{⊎-elim}
 use lib.Dec.{eqb}
 use borrow.Author.Tests.{eq-eqb, ne-eqb}
-use Rattle.record.proofs.Branches.{on, off, or-on, or-off}
+use Rattle.octet.proofs.Branches.{on, off, or-on, or-off}
 use Rattle.sscf.proofs.checks.idle.Statement.{statement}
 use Rattle.sscf.proofs.checks.idle.Tie as tie
 

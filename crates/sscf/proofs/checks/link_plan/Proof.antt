@@ -15,9 +15,9 @@ use Rattle.link.specs.Lent.{leftBy, saidBy, replied}
 use Rattle.link.proofs.Lent.{was-illegal, was-legal}
 use Rattle.record.specs.declared.Slot.{Slot}
 use Rattle.record.specs.LinkRecord.{recordOctets, wellFormed, slotOf}
-use Rattle.record.specs.Frame.{linkAt, codeAt}
+use Rattle.event.specs.Frame.{linkAt, codeAt}
 use Rattle.record.proofs.LinkRecord.{SlotTold, slot-tells}
-use Rattle.record.specs.EventRecord.{eventOf}
+use Rattle.event.specs.EventRecord.{eventOf}
 use Rattle.sscf.specs.Step.{records, recordAt, idle}
 use Rattle.sscf.proofs.Places.{record-length}
 use Rattle.sscf.proofs.checks.link_plan.Statement.{statement}

@@ -5,11 +5,11 @@ use mathlib.Core.List.{List}
 use Prim.Native.Nat.{ℕ}
 use lib.ListN.{drop}
 use borrow.Author.Needs.{needs}
-use Rattle.record.specs.EventRecord.{Coded}
-use Rattle.record.specs.declared.events.Reading.{Reading}
-use Rattle.record.specs.Frame.{EV}
-use Rattle.record.proofs.Frame.{sound}
-use Rattle.record.proofs.EventRecord.{coded, ToldOf, reading-tells}
+use Rattle.event.specs.EventRecord.{Coded}
+use Rattle.event.specs.declared.Reading.{Reading}
+use Rattle.event.specs.Frame.{EV}
+use Rattle.event.proofs.Frame.{sound}
+use Rattle.event.proofs.EventRecord.{coded, ToldOf, reading-tells}
 use Rattle.sscf.specs.declared.checks.Plan.{Plan}
 use Rattle.sscf.specs.Step.{badTable, unknown, checks}
 use Rattle.sscf.specs.Checks.{Check, first}

@@ -1,0 +1,3 @@
+pub mod EventRecord
+pub mod Frame
+pub mod OneAnswer

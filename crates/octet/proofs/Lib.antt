@@ -1,0 +1,4 @@
+pub mod Branches
+pub mod Octets
+pub mod OneAnswer
+pub mod Over

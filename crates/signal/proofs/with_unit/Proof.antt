@@ -1,0 +1,43 @@
+-- `signals::with_unit` meets its contract. Assumes nothing.
+use borrow.Author.Needs.{needs}
+use native.Mathlib.Omega.{arith}
+use Rattle.unit.specs.Unit.{unitOf}
+use Rattle.signal.proofs.SignalRecord.{with-body}
+use Rattle.signal.proofs.with_unit.Statement.{statement}
+use Rattle.signal.proofs.with_unit.Tie as tie
+
+put-fixed-requires : tie.Need-put-fixed-requires
+put-fixed-requires c κs = search needs
+
+write-requires : tie.Need-write-requires
+write-requires c κs = search needs
+
+slice-aggregate-put-at : tie.Need-slice-aggregate-put-at
+slice-aggregate-put-at c = search needs
+
+put-at-requires : tie.Need-put-at-requires
+put-at-requires c κs = rw (c .before .before .write .ensures) (omega arith)
+
+add-result : tie.Need-add-result
+add-result c = search needs
+
+same-length : tie.Need-same-length
+same-length c = search needs
+
+returns : tie.Need-returns
+unfolding unitOf
+returns c =
+    let a = c .before .before .before .before .before .before .before .before .before .before .before .args in
+    with-body (c .before .before .before .before .before .before .before .before .put-fixed .ensures) (omega arith) (unitOf (a .s)) (rw (← c .before .before .before .before .before .write .ensures) (c .before .before .put-at .ensures)) (omega arith)
+
+pub with-unit-spec : {M : Type 1} → statement M
+with-unit-spec =
+    tie.close
+    (tie.spec
+    put-fixed-requires
+    write-requires
+    slice-aggregate-put-at
+    put-at-requires
+    add-result
+    same-length
+    returns)
