@@ -114,6 +114,7 @@ pub enum Carries {
     Message,
 }
 
+// A signal, as the definitions have it. No code makes one: a step says words, and `signal` writes the octets of each.
 pub struct Signal {
     pub code: u8,
     pub param: u8,
