@@ -21,8 +21,8 @@ use Rattle.link.proofs.turned.Reads as turned
 use Rattle.link.proofs.step_in as step-in
 use Rattle.link.proofs.stepped.Kinds as stepped-kinds
 use Rattle.link.proofs.stepped.Reads as stepped
-use Rattle.link.proofs.signals.count.Kinds as count-kinds
-use Rattle.link.proofs.signals.count.Reads as count
+use Rattle.link.proofs.count.Kinds as count-kinds
+use Rattle.link.proofs.count.Reads as count
 
 pub fresh-one : OneAnswer fresh-kinds.ps fresh-kinds.r fresh.Post
 fresh-one κs arguments x y e f = equal

@@ -1,6 +1,4 @@
 // One link: an event and a link's record give the next record and the signals, as Table 6 says. By value, and on a record that is lent.
-pub mod signals;
-
 use table6::Facts;
 use table6::Met;
 use table6::State;
@@ -14,13 +12,14 @@ use unit::Ups;
 ghost use mathlib.Core.Path.{_≡_};
 ghost use mathlib.Core.Bool.{true, cond};
 ghost use Prim.Native.Nat.{_-_};
+ghost use lib.ListN.{length};
 ghost use Rattle.table6.specs.Summary.{over};
 ghost use Rattle.table6.specs.Stored.{flagOp, mpsOp, upsOp, stateOp, countOp, takesOp, changed};
 ghost use Rattle.link.specs.Effect.{with-state};
 ghost use Rattle.link.specs.Fresh.{freshLink};
 ghost use Rattle.link.specs.Lent.{leftBy, saidBy, replied};
 ghost use Rattle.link.specs.Step.{named, stepOf};
-ghost use Rattle.link.specs.Stored.{dataRowOf, t3RowOf, viewOf, factsOf, counted, summedUp, heard};
+ghost use Rattle.link.specs.Stored.{dataRowOf, t3RowOf, viewOf, factsOf, counted, summedUp, signalsOf, heard};
 
 // A number of 24 bits, its highest octet first; or the three values of a REPORT.
 pub struct Num {
@@ -333,6 +332,13 @@ pub struct Said {
     pub mps: Mps,
     pub ups: Ups,
     pub bsnt: Num,
+}
+
+// How many signals that is.
+pub fn count(o: Said) -> u8
+    ensures { λ r. ⌜ r ≡ length (signalsOf o) ⌝ }
+{
+    (o.words % 8) as u8
 }
 
 pub enum Answer {

@@ -4,10 +4,11 @@ use event::HEAD;
 use event::message;
 use link::Num;
 use link::Said;
-use link::signals;
+use link::count;
 use octet::put;
 use octet::put_at;
 use table6::effects;
+use table6::signals;
 use unit::Mps;
 use unit::Status;
 use unit::Ups;
@@ -211,7 +212,7 @@ pub fn put_all(out: &mut [u8], said: Said, e: &[u8]) -> usize
     requires { ⌜ (headOctets ≤ length (now e)) × (lengthAt (now e) ≡ length (messageOf (now e))) × (length (messageOf (now e)) ≤ messageOctets) × (length (joined (linkAt (now e)) (messageOf (now e)) (signalsOf said)) ≤ length (now out)) ⌝ }
     ensures { λ r. ⌜ Put (joined (linkAt (now (e .entry))) (messageOf (now (e .entry))) (signalsOf said)) (now (out .entry)) r (now (out .exit)) ⌝ }
 {
-    let n = signals::count(said);
+    let n = count(said);
     let mut rest = said.words / 256;
     let mut at = 0;
     let mut j = 0;

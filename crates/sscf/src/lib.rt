@@ -50,7 +50,7 @@ pub extern "C" fn sscf_step(table: &mut [u8], event: &[u8], out: &mut [u8]) -> A
             Answer {
                 refusal: ACCEPTED,
                 octets: octets,
-                signals: link::signals::count(said) as u32,
+                signals: link::count(said) as u32,
             }
         }
     }

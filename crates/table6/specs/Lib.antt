@@ -1,3 +1,5 @@
+pub mod EventCodes
+pub mod SignalCodes
 pub mod Words
 pub mod Cell
 pub mod Table6

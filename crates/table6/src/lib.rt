@@ -1,7 +1,9 @@
 // Table 6 of Q.2140: what the cell of an event and a state does, as a constant table with what its codes stand for.
 mod cells;
 pub mod effects;
+pub mod events;
 pub mod rows;
+pub mod signals;
 
 ghost use mathlib.Core.Path.{_≡_};
 ghost use Rattle.table6.specs.Stored.{metAs, met};

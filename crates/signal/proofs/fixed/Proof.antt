@@ -1,4 +1,4 @@
--- `signals::fixed` meets its contract: each arm is the entry with that number. Assumes nothing.
+-- `signal::fixed` meets its contract: each arm is the entry with that number. Assumes nothing.
 use mathlib.Core.Path.{refl, sym, ap}
 use Rattle.table6.specs.Stored.{from}
 use Rattle.table6.proofs.Lists.{beyond}

@@ -1,4 +1,4 @@
--- `signals::offered` meets its contract. Assumes nothing.
+-- `signal::offered` meets its contract. Assumes nothing.
 use borrow.Author.Needs.{needs}
 use mathlib.Core.Path.{ap, _∙_}
 use Rattle.unit.specs.Unit.{code}

@@ -1,4 +1,4 @@
--- `signals::put_all` meets its contract. Assumes nothing.
+-- `signal::put_all` meets its contract. Assumes nothing.
 use mathlib.Core.Path.{_≡_, refl, ap, _∙_}
 use mathlib.Core.List.{_++_}
 use Prim.Native.Nat.{ℕ, _+_, _*_, _^_, _-_, _/_, _%_, _<_, _≤_}

@@ -1,4 +1,4 @@
--- `signals::put_carrying` meets its contract. Assumes nothing.
+-- `signal::put_carrying` meets its contract. Assumes nothing.
 use borrow.Author.Needs.{needs}
 use native.Mathlib.Omega.{arith}
 use Rattle.table6.specs.Cell.{MAAL-PROVING-indication}

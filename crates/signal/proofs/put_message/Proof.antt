@@ -1,4 +1,4 @@
--- `signals::put_message` meets its contract: what is held is the message. Assumes nothing.
+-- `signal::put_message` meets its contract: what is held is the message. Assumes nothing.
 use borrow.Author.Needs.{needs}
 use mathlib.Core.Path.{_≡_, sym, ap, subst, _∙_}
 use mathlib.Core.List.{List}

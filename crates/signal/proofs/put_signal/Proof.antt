@@ -1,4 +1,4 @@
--- `signals::put_signal` meets its contract. Assumes nothing.
+-- `signal::put_signal` meets its contract. Assumes nothing.
 use borrow.Author.Needs.{needs}
 use native.Mathlib.Omega.{arith}
 use mathlib.Core.Path.{_∙_}

@@ -1,4 +1,4 @@
--- `signals::with_number` meets its contract. Assumes nothing.
+-- `signal::with_number` meets its contract. Assumes nothing.
 use borrow.Author.Needs.{needs}
 use native.Mathlib.Omega.{arith}
 use lib.ListN.{length-set}

@@ -1,4 +1,4 @@
--- `signals::with_param` meets its contract. Assumes nothing.
+-- `signal::with_param` meets its contract. Assumes nothing.
 use borrow.Author.Needs.{needs}
 use Rattle.signal.proofs.SignalRecord.{stored}
 use Rattle.signal.proofs.with_param.Statement.{statement}

@@ -1,4 +1,4 @@
--- `signals::with_unit` meets its contract. Assumes nothing.
+-- `signal::with_unit` meets its contract. Assumes nothing.
 use borrow.Author.Needs.{needs}
 use native.Mathlib.Omega.{arith}
 use Rattle.unit.specs.Unit.{unitOf}

@@ -1,9 +1,9 @@
--- `link::signals::count` meets its contract. Assumes nothing.
+-- `link::count` meets its contract. Assumes nothing.
 use mathlib.Core.Path.{sym}
 use borrow.Author.Needs.{needs}
 use Rattle.link.proofs.Spoken.{counted}
-use Rattle.link.proofs.signals.count.Statement.{statement}
-use Rattle.link.proofs.signals.count.Tie as tie
+use Rattle.link.proofs.count.Statement.{statement}
+use Rattle.link.proofs.count.Tie as tie
 
 cast-result : tie.Need-cast-result
 cast-result c = search needs

@@ -1,9 +1,6 @@
-// Document 01's codes of the signals, and how many a step says.
-use crate::Said;
-ghost use mathlib.Core.Path.{_≡_};
-ghost use lib.ListN.{length};
-ghost use Rattle.link.specs.Stored.{signalsOf};
+// Document 01's codes of the signals.
 
+// To the user.
 pub const RECEIVED_MESSAGE: u8 = 1;
 
 pub const LINK_CONGESTED: u8 = 2;
@@ -22,6 +19,7 @@ pub const BSNT: u8 = 8;
 
 pub const BSNT_NOT_RETRIEVABLE: u8 = 9;
 
+// To SSCOP.
 pub const ESTABLISH_REQUEST: u8 = 16;
 
 pub const ESTABLISH_RESPONSE: u8 = 17;
@@ -34,12 +32,14 @@ pub const RECOVER_RESPONSE: u8 = 20;
 
 pub const RETRIEVE_REQUEST: u8 = 21;
 
+// To layer management.
 pub const START_PROVING: u8 = 32;
 
 pub const STOP_PROVING: u8 = 33;
 
 pub const REPORT: u8 = 34;
 
+// Timer orders.
 pub const SET_T1: u8 = 48;
 
 pub const SET_T2: u8 = 49;
@@ -51,10 +51,3 @@ pub const RESET_T1: u8 = 56;
 pub const RESET_T2: u8 = 57;
 
 pub const RESET_T3: u8 = 58;
-
-// How many signals a step says.
-pub fn count(o: Said) -> u8
-    ensures { λ r. ⌜ r ≡ length (signalsOf o) ⌝ }
-{
-    (o.words % 8) as u8
-}

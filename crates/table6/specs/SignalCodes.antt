@@ -1,0 +1,78 @@
+-- Document 01's codes of the signals.
+use Prim.Native.Nat.{ℕ}
+
+-- to the user
+abbrev pub RECEIVED-MESSAGE : ℕ
+RECEIVED-MESSAGE = 1
+
+abbrev pub LINK-CONGESTED : ℕ
+LINK-CONGESTED = 2
+
+abbrev pub CONGESTION-CEASED : ℕ
+CONGESTION-CEASED = 3
+
+abbrev pub IN-SERVICE : ℕ
+IN-SERVICE = 4
+
+abbrev pub OUT-OF-SERVICE : ℕ
+OUT-OF-SERVICE = 5
+
+abbrev pub RETRIEVED-MESSAGES : ℕ
+RETRIEVED-MESSAGES = 6
+
+abbrev pub RETRIEVAL-COMPLETE : ℕ
+RETRIEVAL-COMPLETE = 7
+
+abbrev pub BSNT : ℕ
+BSNT = 8
+
+abbrev pub BSNT-NOT-RETRIEVABLE : ℕ
+BSNT-NOT-RETRIEVABLE = 9
+
+-- to SSCOP
+abbrev pub ESTABLISH-request : ℕ
+ESTABLISH-request = 16
+
+abbrev pub ESTABLISH-response : ℕ
+ESTABLISH-response = 17
+
+abbrev pub RELEASE-request : ℕ
+RELEASE-request = 18
+
+abbrev pub DATA-request : ℕ
+DATA-request = 19
+
+abbrev pub RECOVER-response : ℕ
+RECOVER-response = 20
+
+abbrev pub RETRIEVE-request : ℕ
+RETRIEVE-request = 21
+
+-- to layer management
+abbrev pub START-PROVING : ℕ
+START-PROVING = 32
+
+abbrev pub STOP-PROVING : ℕ
+STOP-PROVING = 33
+
+abbrev pub REPORT : ℕ
+REPORT = 34
+
+-- timer orders
+abbrev pub SET-T1 : ℕ
+SET-T1 = 48
+
+abbrev pub SET-T2 : ℕ
+SET-T2 = 49
+
+abbrev pub SET-T3 : ℕ
+SET-T3 = 50
+
+abbrev pub RESET-T1 : ℕ
+RESET-T1 = 56
+
+abbrev pub RESET-T2 : ℕ
+RESET-T2 = 57
+
+abbrev pub RESET-T3 : ℕ
+RESET-T3 = 58
