@@ -35,14 +35,15 @@
  * OUT_OF_SERVICE; its own STOP, once accepted, takes the link out of service with no
  * OUT_OF_SERVICE to follow.
  *
- * It is never in service too early. Of every table that sscf_fresh made and that nothing but the
- * two calls has written into since, after every sequence of calls, this is proved: a link is in
- * service exactly if its present connection came up and has not been released by either end or by
- * SSCOP, as many proving units as Q.2140's Table 7 decided for that connection were sent on it,
- * its INS unit was sent after them, and the peer's INS unit was received on that same connection.
- * All of it held already whenever IN_SERVICE was given. Where management had forced proving
- * (FORCE_PROVING) when the connection came up, these are n1 units; where it had forced emergency
- * (FORCE_EMERGENCY), none is ever sent.
+ * It is never in service too early. Take a table that sscf_fresh made and that nothing but the two
+ * calls has written into since; each was lent the whole table, as its table, and no call had any of
+ * it as room for output. After every sequence of such calls this is proved: a link is in service
+ * exactly if its present connection came up and has not been released by either end or by SSCOP, as
+ * many proving units as Q.2140's Table 7 decided for that connection were sent on it, its INS unit
+ * was sent after them, and the peer's INS unit was received on that same connection. All of it held
+ * already whenever IN_SERVICE was given. Where management had forced proving (FORCE_PROVING) when
+ * the connection came up, these are n1 units; where it had forced emergency (FORCE_EMERGENCY), none
+ * is ever sent.
  *
  * A FIRST USE
  *
@@ -87,8 +88,10 @@
  *   running by itself. An expiry that comes after its timer was reset is refused, does no harm and
  *   can be dropped; one from before a reset must not be handed in after the next set, since nothing
  *   tells the two apart.
- * - Nothing but sscf_fresh and sscf_step writes into the table. A record that the host has altered
- *   is believed if it is well-formed, whatever it says.
+ * - Nothing but sscf_fresh and sscf_step writes into the table, and they only as their table. Each
+ *   call is lent the whole of it, from the first record to the last, and no octet of it lies in the
+ *   out of any call, one on another table among them. A record that came there in another way is
+ *   believed if it is well-formed, whatever it says.
  * - Q.2140 wants no link to enter proving during local congestion. On START_PROVING for a link
  *   that is congested, hand in CONGESTION for it (again): this gives the connection up, and the
  *   link tries again after T1.
