@@ -47,10 +47,11 @@ pub extern "C" fn sscf_step(table: &mut [u8], event: &[u8], out: &mut [u8]) -> A
             let packed = record::pack(next);
             put_at(table, RECORD * link as usize, &packed);
             let octets = put_all(out, said, event) as u32;
+            let signals = link::count(said) as u32;
             Answer {
                 refusal: ACCEPTED,
                 octets: octets,
-                signals: link::count(said) as u32,
+                signals: signals,
             }
         }
     }

@@ -91,8 +91,8 @@ cast-octets c = omega (arith, c .before .before .put-all .ensures .answer, fits 
 count-requires : tie.Need-count-requires
 count-requires c κs = search needs
 
-cast-t26 : tie.Need-cast-t26
-cast-t26 c = search needs
+cast-signals : tie.Need-cast-signals
+cast-signals c = search needs
 
 same-length : tie.Need-same-length
 same-length c = search needs
@@ -134,7 +134,7 @@ sscf-step-spec =
     put-all-requires
     cast-octets
     count-requires
-    cast-t26
+    cast-signals
     same-length
     returns
     same-length-2
