@@ -1,13 +1,21 @@
-# `make`: set-up, proof and library, first results to look at, the trace of a short story among them, and a C program over the library. `make test`: the gate.
-# `make install`: the library for C with its header, below PREFIX; DESTDIR goes before that, for packages.
-# `make bench`: what a step costs, against a second machine.
+## make              set-up, proof and library, first results to look at, and a C program over the library
+## make test         the gate: ends with 'N passed, 0 failed'
+## make bench        what a step costs, against a second machine
+## make install      the library for C, its headers and a pkg-config file, below PREFIX (/usr/local), the archive into LIBDIR (PREFIX/lib);
+##                   DESTDIR goes before both, for packages
+## make uninstall    takes them away again
+## make clean        removes target/, all that was made
 .POSIX:
-.PHONY: all setup library look example install bench test clean
+.PHONY: all help setup library archive look example install uninstall bench test clean
 
 PREFIX = /usr/local
+LIBDIR = $(PREFIX)/lib
 ARCHIVE = target/staticlib/libsscf.a
 
 all: look example
+
+help:
+	@sed -n 's/^## //p' Makefile
 
 setup:
 	.ci/setup
@@ -24,19 +32,23 @@ look: library
 example: library
 	host/run host/example.c
 
-$(ARCHIVE):
-	rt staticlib sscf
+# Made anew where a crate is newer, so that no old archive is installed or measured.
+archive:
+	host/archive
 
 # The version stands in the header alone.
-install: $(ARCHIVE)
-	install -d '$(DESTDIR)$(PREFIX)/include' '$(DESTDIR)$(PREFIX)/lib/pkgconfig'
+install: archive
+	install -d '$(DESTDIR)$(PREFIX)/include' '$(DESTDIR)$(LIBDIR)/pkgconfig'
 	install -m 644 include/sscf.h '$(DESTDIR)$(PREFIX)/include/sscf.h'
-	install -m 644 $(ARCHIVE) '$(DESTDIR)$(PREFIX)/lib/libsscf.a'
+	install -m 644 $(ARCHIVE) '$(DESTDIR)$(LIBDIR)/libsscf.a'
 	version=$$(sed -n 's/^#define SSCF_VERSION "\(.*\)"$$/\1/p' include/sscf.h) && \
-	sed -e 's|@PREFIX@|$(PREFIX)|' -e "s|@VERSION@|$$version|" include/sscf.pc.in | \
-	install -m 644 /dev/stdin '$(DESTDIR)$(PREFIX)/lib/pkgconfig/sscf.pc'
+	sed -e 's|@PREFIX@|$(PREFIX)|' -e 's|@LIBDIR@|$(LIBDIR)|' -e "s|@VERSION@|$$version|" include/sscf.pc.in | \
+	install -m 644 /dev/stdin '$(DESTDIR)$(LIBDIR)/pkgconfig/sscf.pc'
 
-bench: setup $(ARCHIVE)
+uninstall:
+	rm -f '$(DESTDIR)$(PREFIX)/include/sscf.h' '$(DESTDIR)$(LIBDIR)/libsscf.a' '$(DESTDIR)$(LIBDIR)/pkgconfig/sscf.pc'
+
+bench: setup archive
 	host/bench
 
 test:
