@@ -1,4 +1,4 @@
-# `make`: set-up, proof and library, first results to look at, the trace of a short story among them, and a C program over the library. `make test`: the gate.
+# `make`: set-up, proof and library, first results to look at, the trace of a short story and its chart among them, and a C program over the library. `make test`: the gate.
 # `make install`: the library for C with its header, below PREFIX; DESTDIR goes before that, for packages.
 # `make bench`: what a step costs, against a second machine.
 .POSIX:
@@ -19,7 +19,8 @@ library: setup
 
 look: library
 	examples/wrong-row
-	examples/story | host/x86 target/bin/trace
+	examples/story | host/x86 target/bin/trace | host/names
+	examples/chart
 
 example: library
 	host/run host/example.c
