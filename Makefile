@@ -1,4 +1,4 @@
-## make              set-up, proof and library, first results to look at, and a C program over the library
+## make              set-up, proof and library, first results to look at, a short story's trace and chart among them, and a C program over the library
 ## make test         the gate: ends with 'N passed, 0 failed'
 ## make bench        what a step costs, against a second machine
 ## make install      the library for C, its headers and a pkg-config file, below PREFIX (/usr/local), the archive into LIBDIR (PREFIX/lib);
@@ -27,7 +27,8 @@ library: setup
 
 look: library
 	examples/wrong-row
-	examples/story | host/x86 target/bin/trace
+	examples/story | host/x86 target/bin/trace | host/names
+	examples/chart
 
 example: library
 	host/run host/example.c
