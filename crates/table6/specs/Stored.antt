@@ -12,7 +12,7 @@ use Rattle.table6.specs.declared.Facts.{Facts}
 use Rattle.table6.specs.declared.Met.{Met}
 use Rattle.table6.specs.declared.effects.Change.{Change}
 use Rattle.table6.specs.Words.{–, OOS, PO, INS, NM, ANS, MI, PE, PNS, LR, RR, SR, ALN, CC, CD, SREC, UDR, PDUT, SSCOP-UU, Parameter-Data}
-use Rattle.table6.specs.Cell.{T1, T2, T3, Act, AAL-RECEIVED-MESSAGE-indication, AAL-LINK-CONGESTED-indication, AAL-LINK-CONGESTION-CEASED-indication, AAL-IN-SERVICE-indication, AAL-OUT-OF-SERVICE-indication, AAL-RETRIEVED-MESSAGES-indication, AAL-RETRIEVAL-COMPLETE-indication, AAL-BSNT-confirm, AAL-BSNT-NOT-RETRIEVABLE-confirm, AA-ESTABLISH-request, AA-ESTABLISH-response, AA-RELEASE-request, AA-DATA-request, AA-RECOVER-response, AA-RETRIEVE-request, MAAL-PROVING-indication, MAAL-STOP-PROVING-indication, MAAL-REPORT-indication, Set, Reset, Cond, LPO=0, LPO=0&INS=0, LPO=0&INS=1, UU=EM-or-NM, Source=User, BSNT-available, MU>4, holds, cell, chosen}
+use Rattle.table6.specs.Cell.{T1, T2, T3, Told, Cond, LPO=0, LPO=0&INS=0, LPO=0&INS=1, UU=EM-or-NM, Source=User, BSNT-available, MU>4, holds, cell, chosen}
 use Rattle.table6.specs.Rows.{printed, Heading, heading}
 use Rattle.table6.specs.Summary.{Op, keep, put, over, Count, same, decided, less, Summary, Summed, refused, summed, sum}
 
@@ -110,59 +110,59 @@ changed c =
 
 -- SIGNALS
 
-abbrev pub words : List Act
+abbrev pub words : List Told
 words =
-    AAL-LINK-CONGESTION-CEASED-indication
-    ∷ AAL-IN-SERVICE-indication
-    ∷ AAL-OUT-OF-SERVICE-indication
-    ∷ AAL-RETRIEVAL-COMPLETE-indication
-    ∷ AAL-BSNT-NOT-RETRIEVABLE-confirm
-    ∷ AA-RELEASE-request OOS
-    ∷ AA-RELEASE-request PO
-    ∷ AA-RELEASE-request ANS
-    ∷ AA-RELEASE-request MI
-    ∷ AA-RELEASE-request PE
-    ∷ AA-RELEASE-request PNS
-    ∷ AA-RECOVER-response
-    ∷ MAAL-PROVING-indication
-    ∷ MAAL-STOP-PROVING-indication
-    ∷ MAAL-REPORT-indication – – CC
-    ∷ MAAL-REPORT-indication – – CD
-    ∷ MAAL-REPORT-indication – – SREC
-    ∷ MAAL-REPORT-indication – – UDR
-    ∷ MAAL-REPORT-indication – – PDUT
-    ∷ MAAL-REPORT-indication – OOS –
-    ∷ MAAL-REPORT-indication – OOS ANS
-    ∷ MAAL-REPORT-indication – INS –
-    ∷ MAAL-REPORT-indication – ALN –
-    ∷ MAAL-REPORT-indication LR – CD
-    ∷ MAAL-REPORT-indication LR – PE
-    ∷ MAAL-REPORT-indication LR OOS –
-    ∷ MAAL-REPORT-indication LR OOS ANS
-    ∷ MAAL-REPORT-indication LR OOS PE
-    ∷ MAAL-REPORT-indication SR – –
-    ∷ MAAL-REPORT-indication SR OOS –
-    ∷ Reset T1
-    ∷ Reset T2
-    ∷ Reset T3
-    ∷ Set T1
-    ∷ Set T2
-    ∷ Set T3
-    ∷ AAL-LINK-CONGESTED-indication
-    ∷ AAL-BSNT-confirm
-    ∷ AA-ESTABLISH-request
-    ∷ AA-ESTABLISH-response
-    ∷ AA-RETRIEVE-request
-    ∷ MAAL-REPORT-indication RR – SSCOP-UU
-    ∷ AAL-RECEIVED-MESSAGE-indication
-    ∷ AAL-RETRIEVED-MESSAGES-indication
-    ∷ AA-DATA-request Parameter-Data
-    ∷ AA-DATA-request NM
-    ∷ AA-DATA-request INS
+    Told.AAL-LINK-CONGESTION-CEASED-indication
+    ∷ Told.AAL-IN-SERVICE-indication
+    ∷ Told.AAL-OUT-OF-SERVICE-indication
+    ∷ Told.AAL-RETRIEVAL-COMPLETE-indication
+    ∷ Told.AAL-BSNT-NOT-RETRIEVABLE-confirm
+    ∷ Told.AA-RELEASE-request OOS
+    ∷ Told.AA-RELEASE-request PO
+    ∷ Told.AA-RELEASE-request ANS
+    ∷ Told.AA-RELEASE-request MI
+    ∷ Told.AA-RELEASE-request PE
+    ∷ Told.AA-RELEASE-request PNS
+    ∷ Told.AA-RECOVER-response
+    ∷ Told.MAAL-PROVING-indication
+    ∷ Told.MAAL-STOP-PROVING-indication
+    ∷ Told.MAAL-REPORT-indication – – CC
+    ∷ Told.MAAL-REPORT-indication – – CD
+    ∷ Told.MAAL-REPORT-indication – – SREC
+    ∷ Told.MAAL-REPORT-indication – – UDR
+    ∷ Told.MAAL-REPORT-indication – – PDUT
+    ∷ Told.MAAL-REPORT-indication – OOS –
+    ∷ Told.MAAL-REPORT-indication – OOS ANS
+    ∷ Told.MAAL-REPORT-indication – INS –
+    ∷ Told.MAAL-REPORT-indication – ALN –
+    ∷ Told.MAAL-REPORT-indication LR – CD
+    ∷ Told.MAAL-REPORT-indication LR – PE
+    ∷ Told.MAAL-REPORT-indication LR OOS –
+    ∷ Told.MAAL-REPORT-indication LR OOS ANS
+    ∷ Told.MAAL-REPORT-indication LR OOS PE
+    ∷ Told.MAAL-REPORT-indication SR – –
+    ∷ Told.MAAL-REPORT-indication SR OOS –
+    ∷ Told.Reset T1
+    ∷ Told.Reset T2
+    ∷ Told.Reset T3
+    ∷ Told.Set T1
+    ∷ Told.Set T2
+    ∷ Told.Set T3
+    ∷ Told.AAL-LINK-CONGESTED-indication
+    ∷ Told.AAL-BSNT-confirm
+    ∷ Told.AA-ESTABLISH-request
+    ∷ Told.AA-ESTABLISH-response
+    ∷ Told.AA-RETRIEVE-request
+    ∷ Told.MAAL-REPORT-indication RR – SSCOP-UU
+    ∷ Told.AAL-RECEIVED-MESSAGE-indication
+    ∷ Told.AAL-RETRIEVED-MESSAGES-indication
+    ∷ Told.AA-DATA-request Parameter-Data
+    ∷ Told.AA-DATA-request NM
+    ∷ Told.AA-DATA-request INS
     ∷ []
 
-abbrev pub wordAt : ℕ → Act
-wordAt w = getD words w MAAL-PROVING-indication
+abbrev pub wordAt : ℕ → Told
+wordAt w = getD words w Told.MAAL-PROVING-indication
 
 -- the number of some words: how many, and each, by octets from the lowest
 abbrev pub octets : List ℕ → ℕ
@@ -181,7 +181,7 @@ from f i (suc n) = f i ∷ from f (suc i) n
 abbrev pub octet : ℕ → ℕ → ℕ
 octet w k = w / 2 ^ (k * 8 + 8) % 256
 
-abbrev pub said : ℕ → List Act
+abbrev pub said : ℕ → List Told
 said w = map wordAt (from (octet w) 0 (w % 8))
 
 -- CODES
