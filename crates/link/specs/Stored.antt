@@ -7,6 +7,7 @@ use Rattle.unit.specs.declared.Arrived.{Arrived}
 use Rattle.unit.specs.Proving.{asked, table7}
 use Rattle.table6.specs.declared.Facts.{Facts}
 use Rattle.table6.specs.Summary.{over, Count, same, decided, less, Summary}
+use Rattle.table6.specs.Cell.{Told}
 use Rattle.table6.specs.Rows.{heading}
 use Rattle.table6.specs.Stored.{said}
 use Rattle.link.specs.declared.Num.{Num}
@@ -100,8 +101,12 @@ summedUp s field n l =
 
 -- SIGNALS
 
+-- what is told, with what the step says beside its words
+abbrev pub meantBy : Said → Told → Signal
+meantBy o a = signalOf (o .param) (o .num) (o .mps) (o .ups) (o .bsnt) a
+
 unfoldable pub signalsOf : Said → List Signal
-signalsOf o = map (signalOf (o .param) (o .num) (o .mps) (o .ups) (o .bsnt)) (said (o .words))
+signalsOf o = map (meantBy o) (said (o .words))
 
 -- ANSWERS
 
