@@ -40,9 +40,13 @@ with-timer T3 x l = record { state = l .state; ins = l .ins; lpo = l .lpo; mps =
 abbrev pub taken : Num → Bsnt
 taken n = record { known = true; num = n }
 
--- A connection comes up, with the peer's field: the INS flag is cleared and C1 is decided by Table 7, from MPS and UPS as the event found them.
+-- Generate N1: by Table 7, from the peer's field and from MPS and UPS as the event found them.
+abbrev pub generated : Link → ℕ → ℕ
+generated found field = table7 (found .mps) (found .ups) (asked field) (found .n1)
+
+-- A connection comes up, with the peer's field: the INS flag is cleared and C1 is decided.
 abbrev pub up : Link → ℕ → Link → Link
-up found field l = with-ins false (with-c1 (table7 (found .mps) (found .ups) (asked field) (found .n1)) l)
+up found field l = with-ins false (with-c1 (generated found field) l)
 
 -- One action, of an event with this field and this number, on the record that the event found and on what has become of it. Telling alters the record
 -- only where it brings a connection up or orders a timer.
@@ -79,7 +83,7 @@ altering Done.Set-LPO=1 field n found l = with-lpo true l
 altering Done.Set-INS-flag field n found l = with-ins true l
 altering Done.Reset-INS-flag field n found l = with-ins false l
 altering Done.Generate-N1 field n found l = l
-altering Done.Set-C1=N1 field n found l = with-c1 (table7 (found .mps) (found .ups) (asked field) (found .n1)) l
+altering Done.Set-C1=N1 field n found l = with-c1 (generated found field) l
 altering Done.Decrement-C1 field n found l = with-c1 (l .c1 - 1) l
 altering Done.connection-up field n found l = up found field l
 altering Done.take-BSNT field n found l = with-bsnt (taken n) l
