@@ -37,7 +37,8 @@ use Rattle.history.specs.History.{Mark, accepted, emitted, with-signals,
 use Rattle.history.specs.Tests.{stands, alive, sent, due, toldIns, heardIns}
 use Rattle.history.proofs.Lawful.{lawful}
 use Rattle.history.proofs.Walk.{Base, held, new, Conn, dead, live, Abs, abs, Found, sentAt, dueAt, ConnIs, Is, Is?, Before, ruleEvent, ruleSignal, signal-ok, event-ok}
-use Rattle.history.proofs.Table.{Now, down, on, serving, now, Sort, begin, level, sign, told, takes, decides, least, counts, still-level, sameOp, fits, ends, leads, sortAt, sign-of, choice-ok}
+use Rattle.history.proofs.Table.{Now, down, on, serving, now, Sort, begin, level, sign, sign-of, told}
+use Rattle.history.proofs.Table.{takes, decides, least, counts, still-level, sameOp, fits, ends, leads, sortAt, choice-ok}
 use Rattle.history.proofs.Events.{Told}
 
 -- THE INVARIANT

@@ -17,7 +17,8 @@ use Rattle.history.specs.Tests.{stands, alive, sent, due, toldIns, heard
 use Rattle.history.specs.Witness.{Witness}
 
 pub witness : Witness
-unfolding unitOf kind arrived decoded asked table7 table8 every-row stepOf over putAt octetsOf linkOf wellFormed written framedAs codedAt misfit joined stepCall freshCall next run marks stands alive sent due toldIns heardIns
+unfolding unitOf kind arrived decoded asked table7 table8 every-row stepOf over putAt octetsOf linkOf wellFormed written framedAs
+    codedAt misfit joined stepCall freshCall next run marks stands alive sent due toldIns heardIns
 witness =
     record {
       begins = refl;
