@@ -12,7 +12,8 @@ use Rattle.unit.specs.declared.Ups.{Ups}
 use Rattle.unit.specs.Unit.{arrived}
 use Rattle.unit.specs.Proving.{mpsCode, upsCode, asked, table7}
 use Rattle.table6.specs.declared.State.{State}
-use Rattle.table6.specs.Cell.{Act, cell, Choice, illegal, does, chosen}
+use Rattle.table6.specs.Cell as table6
+use Rattle.table6.specs.Cell.{cell, Choice, illegal, does, chosen}
 use Rattle.table6.specs.Order.{signals}
 use Rattle.table6.specs.Rows.{printed, heading}
 use Rattle.table6.specs.Stored.{met}
@@ -36,7 +37,8 @@ use Rattle.history.specs.History.{Mark, accepted, emitted, with-signals,
 use Rattle.history.specs.Tests.{stands, alive, sent, due, toldIns, heardIns}
 use Rattle.history.proofs.Lawful.{lawful}
 use Rattle.history.proofs.Walk.{Base, held, new, Conn, dead, live, Abs, abs, Found, sentAt, dueAt, ConnIs, Is, Is?, Before, ruleEvent, ruleSignal, signal-ok, event-ok}
-use Rattle.history.proofs.Table.{Now, down, on, serving, now, Sort, begin, level, sign, told, takes, decides, least, counts, still-level, sameOp, fits, ends, leads, sortAt, sign-of, choice-ok}
+use Rattle.history.proofs.Table.{Now, down, on, serving, now, Sort, begin, level, sign, sign-of, told}
+use Rattle.history.proofs.Table.{takes, decides, least, counts, still-level, sameOp, fits, ends, leads, sortAt, choice-ok}
 use Rattle.history.proofs.Events.{Told}
 
 -- THE INVARIANT
@@ -125,19 +127,19 @@ module _ (n1 : ℕ) (l : Link) (h : List Mark) (v : Inv n1 l h) (k : ℕ) (m : L
   first-mark = event-ok (found n1 l h s p) h (s .mark) c (arrived m) (abs (serving (l .state)) (begin (here l)) keep keep) before (t .mark)
 
   module _ (q : ℕ) (n : Num) (b : Num) where
-    abbrev spoken : Act → List ℕ
+    abbrev spoken : table6.Told → List ℕ
     spoken a = signalOctets k m (signalOf q n (l .mps) (l .ups) b a)
 
-    abbrev markOf : Act → Mark
+    abbrev markOf : table6.Told → Mark
     markOf a = emitted (signalOf q n (l .mps) (l .ups) b a .code) (arrived (bodyOf (signalOf q n (l .mps) (l .ups) b a .carries) m))
 
-    one-signal : (a : Act) (A : Abs) (g : List Mark) → Is (found n1 l h s p) A g →
+    one-signal : (a : table6.Told) (A : Abs) (g : List Mark) → Is (found n1 l h s p) A g →
         Is? (found n1 l h s p) (ruleSignal (level s (here l)) (s .above) (s .long) (sign a .code) (sign a .carries) A) (markOf a ∷ g)
     one-signal a A g i =
         let (x, y) = sign-of q n (l .mps) (l .ups) b a in
         rw (x, y) (signal-ok (found n1 l h s p) g all-sent some-due m (s .long) (t .long) A i (sign a .code) (sign a .carries))
 
-    signals-ok : (acts : List Act) (o : Option Abs) (g : List Mark) → Is? (found n1 l h s p) o g →
+    signals-ok : (acts : List table6.Told) (o : Option Abs) (g : List Mark) → Is? (found n1 l h s p) o g →
         Is? (found n1 l h s p) (told (level s (here l)) s acts o) (with-signals (map spoken acts) g)
     unfolding written
     signals-ok [] o g i = i
@@ -213,7 +215,7 @@ abbrev pub Keeps : ℕ → List Mark → ℕ → List ℕ → ℕ → ℕ → Ou
 Keeps n1 h k m c p Illegal = Unit {0}
 Keeps n1 h k m c p (Legal next said) = Inv n1 next (with-signals (map (signalOctets k m) said) (accepted c p (arrived m) ∷ h))
 
-twice : (k : ℕ) (m : List ℕ) (f : Act → Signal) (acts : List Act) → map (signalOctets k m) (map f acts) ≡ map (λ a. signalOctets k m (f a)) acts
+twice : (k : ℕ) (m : List ℕ) (f : table6.Told → Signal) (acts : List table6.Told) → map (signalOctets k m) (map f acts) ≡ map (λ a. signalOctets k m (f a)) acts
 twice k m f [] = refl
 twice k m f (a ∷ acts) = ap (λ (x : List (List ℕ)). signalOctets k m (f a) ∷ x) (twice k m f acts)
 

@@ -14,12 +14,13 @@ use Rattle.unit.specs.declared.Ups.{Ups}
 use Rattle.unit.specs.Proving.{mpsCode, upsCode}
 use Rattle.table6.specs.declared.State.{State}
 use Rattle.table6.specs.declared.Facts.{Facts}
-use Rattle.table6.specs.Cell.{Act, AAL-RECEIVED-MESSAGE-indication, AAL-LINK-CONGESTED-indication, AAL-LINK-CONGESTION-CEASED-indication, AAL-IN-SERVICE-indication, AAL-OUT-OF-SERVICE-indication, AAL-RETRIEVED-MESSAGES-indication, AAL-RETRIEVAL-COMPLETE-indication, AAL-BSNT-confirm, AAL-BSNT-NOT-RETRIEVABLE-confirm, AA-ESTABLISH-request, AA-ESTABLISH-response, AA-RELEASE-request, AA-DATA-request, AA-RECOVER-response, AA-RETRIEVE-request, MAAL-PROVING-indication, MAAL-STOP-PROVING-indication, MAAL-REPORT-indication, Set-UPS=NM, Set-UPS=EM, Set-MPS=N, Set-MPS=NM, Set-MPS=EM, Set-LPO=0, Set-LPO=1, Set-INS-flag, Reset-INS-flag, Generate-N1, Set-C1=N1, Decrement-C1, Set, Reset, connection-up, take-BSNT, end, Cond, LPO=0, LPO=0&INS=0, LPO=0&INS=1, UU=EM-or-NM, Source=User, BSNT-available, MU>4, holds, Cell, Illegal, to, _⨟_, IF_THEN_ELSE_, Row, cell, chosen}
-use Rattle.table6.specs.Table6.{AAL-MESSAGE-FOR-TRANSMISSION-request, AAL-EMERGENCY-request, AAL-EMERGENCY-CEASES-request, AAL-STOP-request, AAL-START-request, AAL-RETRIEVE-BSNT-request, AAL-RETRIEVAL-REQUEST-AND-FSNC-request, AAL-FLUSH-BUFFERS-request, AAL-CONTINUE-request, AA-ESTABLISH-indication-with-EM-NM, AA-ESTABLISH-indication-with-others, AA-ESTABLISH-confirm-with-EM-NM, AA-ESTABLISH-confirm-with-others, AA-RELEASE-indication-from-User, AA-RELEASE-indication-from-SSCOP, AA-RELEASE-confirm, AA-DATA-indication-with-INS, AA-DATA-indication-with-NM, AA-DATA-indication-with-other, AA-DATA-indication-with-MU>4, AA-RESYNC-indication, AA-RECOVER-indication, AA-UNITDATA-indication, AA-RETRIEVE-indication, AA-RETRIEVE-COMPLETE-indication, MAAL-PROVING-UNSUCCESSFUL-response, MAAL-RELEASE-request, MAAL-LOCAL-PROCESSOR-OUTAGE-request, MAAL-LOCAL-PROCESSOR-RECOVERED-request, MAAL-FORCE-PROVING-request, MAAL-FORCE-EMERGENCY-request, MAAL-CLEAR-FORCE-MODES-request, Local-Congestion, Local-Congestion-Ceased, T1-expires, T2-expires, T3-expires-and-C1>0, T3-expires-and-C1=0}
+use Rattle.table6.specs.Cell.{Cond, LPO=0, LPO=0&INS=0, LPO=0&INS=1, UU=EM-or-NM, Source=User, BSNT-available, MU>4, holds}
+use Rattle.table6.specs.Cell.{Told, Act, tell, alter, Cell, Illegal, to, _⨟_, _⨾_, IF_THEN_ELSE_, Row, cell, chosen}
 use Rattle.table6.specs.Order.{signals}
 use Rattle.table6.specs.Rows.{Printed, one, two, printed, Heading, rows, nowhere, heading}
 use Rattle.table6.specs.Summary.{Op, keep, put, over, Count, same, decided, less, Summary, still, summary}
 use Rattle.table6.proofs.Every.{left, right, Holds, one-more, no-row}
+use Rattle.table6.proofs.Unfolded.{every-row}
 use Rattle.link.specs.declared.Num.{Num}
 use Rattle.link.specs.declared.Signal.{Signal}
 use Rattle.link.specs.Signal as link
@@ -114,14 +115,14 @@ abbrev pub level : Sort → Now → Bool
 level s down = false
 level s (on a g z) = z || s .zero
 
--- the code of an action's signal and what it carries, which no parameter changes
-abbrev pub sign : Act → Signal
+-- the code of what is told and what it carries, which no parameter changes
+abbrev pub sign : Told → Signal
 sign a = signalOf 0 link.none Mps.Neutral Ups.Normal link.none a
 
-abbrev pub told : Bool → Sort → List Act → Option Abs → Option Abs
+abbrev pub told : Bool → Sort → List Told → Option Abs → Option Abs
 told z s [] o = o
-told z s (a ∷ acts) none = none
-told z s (a ∷ acts) (some A) = told z s acts (ruleSignal z (s .above) (s .long) (sign a .code) (sign a .carries) A)
+told z s (a ∷ others) none = none
+told z s (a ∷ others) (some A) = told z s others (ruleSignal z (s .above) (s .long) (sign a .code) (sign a .carries) A)
 
 -- a count takes exactly n from C1; it is what Table 7 decides
 abbrev pub takes : Count → ℕ → Bool
@@ -182,7 +183,8 @@ never MU>4 flag = false
 abbrev in-cell : (List Act → State → Bool) → Bool → List Act → Cell → Bool
 in-cell t flag acts Illegal = true
 in-cell t flag acts (to next) = t acts next
-in-cell t flag acts (a ⨟ c) = in-cell t flag (acts ++ a ∷ []) c
+in-cell t flag acts (a ⨟ c) = in-cell t flag (acts ++ tell a ∷ []) c
+in-cell t flag acts (a ⨾ c) = in-cell t flag (acts ++ alter a ∷ []) c
 in-cell t flag acts (IF q THEN c ELSE d) = cond (never q flag) true (in-cell t flag acts c) && in-cell t flag acts d
 
 abbrev in-row : Sort → State → Bool → List Act → Row → Bool
@@ -199,7 +201,7 @@ in-rows st flag (s ∷ ss) [] = false
 in-rows st flag (s ∷ ss) (h ∷ hs) = in-printed s st flag (h .arrives) (h .row) && in-rows st flag ss hs
 
 table-ok : (st : State) (flag : Bool) → in-rows st flag sorts rows ≡ true
-unfolding AAL-MESSAGE-FOR-TRANSMISSION-request AAL-EMERGENCY-request AAL-EMERGENCY-CEASES-request AAL-STOP-request AAL-START-request AAL-RETRIEVE-BSNT-request AAL-RETRIEVAL-REQUEST-AND-FSNC-request AAL-FLUSH-BUFFERS-request AAL-CONTINUE-request AA-ESTABLISH-indication-with-EM-NM AA-ESTABLISH-indication-with-others AA-ESTABLISH-confirm-with-EM-NM AA-ESTABLISH-confirm-with-others AA-RELEASE-indication-from-User AA-RELEASE-indication-from-SSCOP AA-RELEASE-confirm AA-DATA-indication-with-INS AA-DATA-indication-with-NM AA-DATA-indication-with-other AA-DATA-indication-with-MU>4 AA-RESYNC-indication AA-RECOVER-indication AA-UNITDATA-indication AA-RETRIEVE-indication AA-RETRIEVE-COMPLETE-indication MAAL-PROVING-UNSUCCESSFUL-response MAAL-RELEASE-request MAAL-LOCAL-PROCESSOR-OUTAGE-request MAAL-LOCAL-PROCESSOR-RECOVERED-request MAAL-FORCE-PROVING-request MAAL-FORCE-EMERGENCY-request MAAL-CLEAR-FORCE-MODES-request Local-Congestion Local-Congestion-Ceased T1-expires T2-expires T3-expires-and-C1>0 T3-expires-and-C1=0
+unfolding every-row
 table-ok State.S111 false = refl
 table-ok State.S111 true = refl
 table-ok State.S141 false = refl
@@ -219,43 +221,28 @@ table-ok State.S3105 true = refl
 
 -- FROM THE TEST TO A CHOICE
 
-pub sign-of : (p : ℕ) (n : Num) (m : Mps) (u : Ups) (b : Num) (a : Act) →
+pub sign-of : (p : ℕ) (n : Num) (m : Mps) (u : Ups) (b : Num) (a : Told) →
     (signalOf p n m u b a .code ≡ sign a .code) × (signalOf p n m u b a .carries ≡ sign a .carries)
-sign-of p n m u b AAL-RECEIVED-MESSAGE-indication = (refl, refl)
-sign-of p n m u b AAL-LINK-CONGESTED-indication = (refl, refl)
-sign-of p n m u b AAL-LINK-CONGESTION-CEASED-indication = (refl, refl)
-sign-of p n m u b AAL-IN-SERVICE-indication = (refl, refl)
-sign-of p n m u b AAL-OUT-OF-SERVICE-indication = (refl, refl)
-sign-of p n m u b AAL-RETRIEVED-MESSAGES-indication = (refl, refl)
-sign-of p n m u b AAL-RETRIEVAL-COMPLETE-indication = (refl, refl)
-sign-of p n m u b AAL-BSNT-confirm = (refl, refl)
-sign-of p n m u b AAL-BSNT-NOT-RETRIEVABLE-confirm = (refl, refl)
-sign-of p n m u b AA-ESTABLISH-request = (refl, refl)
-sign-of p n m u b AA-ESTABLISH-response = (refl, refl)
-sign-of p n m u b (AA-RELEASE-request uu) = (refl, refl)
-sign-of p n m u b (AA-DATA-request x) = (refl, refl)
-sign-of p n m u b AA-RECOVER-response = (refl, refl)
-sign-of p n m u b AA-RETRIEVE-request = (refl, refl)
-sign-of p n m u b MAAL-PROVING-indication = (refl, refl)
-sign-of p n m u b MAAL-STOP-PROVING-indication = (refl, refl)
-sign-of p n m u b (MAAL-REPORT-indication x y z) = (refl, refl)
-sign-of p n m u b Set-UPS=NM = (refl, refl)
-sign-of p n m u b Set-UPS=EM = (refl, refl)
-sign-of p n m u b Set-MPS=N = (refl, refl)
-sign-of p n m u b Set-MPS=NM = (refl, refl)
-sign-of p n m u b Set-MPS=EM = (refl, refl)
-sign-of p n m u b Set-LPO=0 = (refl, refl)
-sign-of p n m u b Set-LPO=1 = (refl, refl)
-sign-of p n m u b Set-INS-flag = (refl, refl)
-sign-of p n m u b Reset-INS-flag = (refl, refl)
-sign-of p n m u b Generate-N1 = (refl, refl)
-sign-of p n m u b Set-C1=N1 = (refl, refl)
-sign-of p n m u b Decrement-C1 = (refl, refl)
-sign-of p n m u b (Set t) = (refl, refl)
-sign-of p n m u b (Reset t) = (refl, refl)
-sign-of p n m u b connection-up = (refl, refl)
-sign-of p n m u b take-BSNT = (refl, refl)
-sign-of p n m u b (end t) = (refl, refl)
+sign-of p n m u b Told.AAL-RECEIVED-MESSAGE-indication = (refl, refl)
+sign-of p n m u b Told.AAL-LINK-CONGESTED-indication = (refl, refl)
+sign-of p n m u b Told.AAL-LINK-CONGESTION-CEASED-indication = (refl, refl)
+sign-of p n m u b Told.AAL-IN-SERVICE-indication = (refl, refl)
+sign-of p n m u b Told.AAL-OUT-OF-SERVICE-indication = (refl, refl)
+sign-of p n m u b Told.AAL-RETRIEVED-MESSAGES-indication = (refl, refl)
+sign-of p n m u b Told.AAL-RETRIEVAL-COMPLETE-indication = (refl, refl)
+sign-of p n m u b Told.AAL-BSNT-confirm = (refl, refl)
+sign-of p n m u b Told.AAL-BSNT-NOT-RETRIEVABLE-confirm = (refl, refl)
+sign-of p n m u b Told.AA-ESTABLISH-request = (refl, refl)
+sign-of p n m u b Told.AA-ESTABLISH-response = (refl, refl)
+sign-of p n m u b (Told.AA-RELEASE-request uu) = (refl, refl)
+sign-of p n m u b (Told.AA-DATA-request x) = (refl, refl)
+sign-of p n m u b Told.AA-RECOVER-response = (refl, refl)
+sign-of p n m u b Told.AA-RETRIEVE-request = (refl, refl)
+sign-of p n m u b Told.MAAL-PROVING-indication = (refl, refl)
+sign-of p n m u b Told.MAAL-STOP-PROVING-indication = (refl, refl)
+sign-of p n m u b (Told.MAAL-REPORT-indication x y z) = (refl, refl)
+sign-of p n m u b (Told.Set t) = (refl, refl)
+sign-of p n m u b (Told.Reset t) = (refl, refl)
 
 possible : (q : Cond) (f : Facts) → holds q f ≡ true → never q (f .ins) ≡ false
 possible LPO=0 f h = refl
@@ -269,7 +256,8 @@ possible MU>4 f h = refl
 of-cell : (t : List Act → State → Bool) (acts : List Act) (c : Cell) (f : Facts) → in-cell t (f .ins) acts c ≡ true → Holds t acts (chosen f c)
 of-cell t acts Illegal f h = tt
 of-cell t acts (to next) f h = rw append-nil h
-of-cell t acts (a ⨟ c) f h = one-more t acts a (chosen f c) (of-cell t (acts ++ a ∷ []) c f h)
+of-cell t acts (a ⨟ c) f h = one-more t acts (tell a) (chosen f c) (of-cell t (acts ++ tell a ∷ []) c f h)
+of-cell t acts (a ⨾ c) f h = one-more t acts (alter a) (chosen f c) (of-cell t (acts ++ alter a ∷ []) c f h)
 of-cell t acts (IF q THEN c ELSE d) f h =
     by (holds q f) refl (of-cell t acts c f) (of-cell t acts d f (right (cond (never q (f .ins)) true (in-cell t (f .ins) acts c)) (in-cell t (f .ins) acts d) h)) where
       by : (b : Bool) → holds q f ≡ b → (in-cell t (f .ins) acts c ≡ true → Holds t acts (chosen f c)) → Holds t acts (chosen f d) → Holds t acts (cond b (chosen f c) (chosen f d))

@@ -2,7 +2,7 @@
 use mathlib.Core.Path.{refl}
 use Rattle.unit.specs.Unit.{unitOf, kind, arrived, decoded}
 use Rattle.unit.specs.Proving.{asked, table7, table8}
-use Rattle.table6.specs.Table6.{AAL-START-request, AAL-STOP-request, AAL-EMERGENCY-request, AA-ESTABLISH-indication-with-EM-NM, AA-ESTABLISH-confirm-with-EM-NM, AA-RELEASE-indication-from-User, AA-RELEASE-indication-from-SSCOP, AA-DATA-indication-with-INS, MAAL-RELEASE-request, MAAL-FORCE-EMERGENCY-request, T1-expires, T3-expires-and-C1>0, T3-expires-and-C1=0}
+use Rattle.table6.proofs.Unfolded.{every-row}
 use Rattle.link.specs.Step.{stepOf}
 use Rattle.octet.specs.Octets.{over, putAt}
 use Rattle.record.specs.LinkRecord.{octetsOf, linkOf, wellFormed}
@@ -17,7 +17,8 @@ use Rattle.history.specs.Tests.{stands, alive, sent, due, toldIns, heard
 use Rattle.history.specs.Witness.{Witness}
 
 pub witness : Witness
-unfolding unitOf kind arrived decoded asked table7 table8 AAL-START-request AAL-STOP-request AAL-EMERGENCY-request AA-ESTABLISH-indication-with-EM-NM AA-ESTABLISH-confirm-with-EM-NM AA-RELEASE-indication-from-User AA-RELEASE-indication-from-SSCOP AA-DATA-indication-with-INS MAAL-RELEASE-request MAAL-FORCE-EMERGENCY-request T1-expires T3-expires-and-C1>0 T3-expires-and-C1=0 stepOf over putAt octetsOf linkOf wellFormed written framedAs codedAt misfit joined stepCall freshCall next run marks stands alive sent due toldIns heardIns
+unfolding unitOf kind arrived decoded asked table7 table8 every-row stepOf over putAt octetsOf linkOf wellFormed written framedAs
+    codedAt misfit joined stepCall freshCall next run marks stands alive sent due toldIns heardIns
 witness =
     record {
       begins = refl;

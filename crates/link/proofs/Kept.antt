@@ -1,10 +1,9 @@
 -- What every step keeps: read off the summary of a cell, and off the tests of all cells for how much each says. Assumes nothing.
 use mathlib.Core.Path.{_≡_, refl, subst}
-use mathlib.Core.Bool.{Bool, true, false, cond, true≢false}
+use mathlib.Core.Bool.{Bool, true, false, cond, not, _||_, true≢false}
 use mathlib.Core.List.{List, [], _∷_, _++_, map}
 use Prim.Native.Nat.{ℕ, _≤_}
 use native.Mathlib.Omega.{arith}
-use lib.Dec.{eqb}
 use lib.ListN.{length}
 use borrow.Author.Tests.{leb-true}
 use Rattle.unit.specs.declared.Mps.{Mps}
@@ -14,12 +13,12 @@ use Rattle.unit.specs.Proving.{asked}
 use Rattle.unit.proofs.Proving.{at-most}
 use Rattle.table6.specs.Words as words
 use Rattle.table6.specs.Words.{NM, INS}
-use Rattle.table6.specs.Cell.{Act, AAL-RECEIVED-MESSAGE-indication, AAL-LINK-CONGESTED-indication, AAL-LINK-CONGESTION-CEASED-indication, AAL-IN-SERVICE-indication, AAL-OUT-OF-SERVICE-indication, AAL-RETRIEVED-MESSAGES-indication, AAL-RETRIEVAL-COMPLETE-indication, AAL-BSNT-confirm, AAL-BSNT-NOT-RETRIEVABLE-confirm, AA-ESTABLISH-request, AA-ESTABLISH-response, AA-RELEASE-request, AA-DATA-request, AA-RECOVER-response, AA-RETRIEVE-request, MAAL-PROVING-indication, MAAL-STOP-PROVING-indication, MAAL-REPORT-indication, Set-UPS=NM, Set-UPS=EM, Set-MPS=N, Set-MPS=NM, Set-MPS=EM, Set-LPO=0, Set-LPO=1, Set-INS-flag, Reset-INS-flag, Generate-N1, Set-C1=N1, Decrement-C1, Set, Reset, connection-up, take-BSNT, end, cell, Choice, illegal, does, chosen}
+use Rattle.table6.specs.Cell.{Told, cell, Choice, illegal, does, chosen}
 use Rattle.table6.specs.Order.{signals}
 use Rattle.table6.specs.Summary.{Count, same, decided, less, summary, still, sum}
 use Rattle.table6.specs.Rows.{printed, heading}
 use Rattle.table6.specs.Stored.{met}
-use Rattle.table6.specs.Every.{kind, often, five, one-message}
+use Rattle.table6.specs.Every.{own-message, own-messages, five, one-message}
 use Rattle.table6.proofs.Every.{Holds, at-most-five, at-most-one-message, of-choice}
 use Rattle.link.specs.declared.Num.{Num}
 use Rattle.link.specs.declared.Bsnt.{Bsnt}
@@ -45,51 +44,36 @@ kept-zero false n old h e = h e
 
 -- WHICH SIGNALS CARRY THE MESSAGE: those that the table's test counts
 
-of-unit : (a b : Bool) → messagesIn (cond a (Carries.Unit Status.NM) (cond b (Carries.Unit Status.INS) Carries.Message)) ≡ cond (eqb (cond a 0 (cond b 0 6)) 6) 1 0
+of-unit : (a b : Bool) → messagesIn (cond a (Carries.Unit Status.NM) (cond b (Carries.Unit Status.INS) Carries.Message)) ≡ cond (not (a || b)) 1 0
 of-unit true b = refl
 of-unit false true = refl
 of-unit false false = refl
 
-message-kind : (p : ℕ) (n : Num) (mps : Mps) (ups : Ups) (b : Num) (a : Act) → messagesIn (signalOf p n mps ups b a .carries) ≡ cond (eqb (kind a) 6) 1 0
-message-kind p n mps ups b AAL-RECEIVED-MESSAGE-indication = refl
-message-kind p n mps ups b AAL-LINK-CONGESTED-indication = refl
-message-kind p n mps ups b AAL-LINK-CONGESTION-CEASED-indication = refl
-message-kind p n mps ups b AAL-IN-SERVICE-indication = refl
-message-kind p n mps ups b AAL-OUT-OF-SERVICE-indication = refl
-message-kind p n mps ups b AAL-RETRIEVED-MESSAGES-indication = refl
-message-kind p n mps ups b AAL-RETRIEVAL-COMPLETE-indication = refl
-message-kind p n mps ups b AAL-BSNT-confirm = refl
-message-kind p n mps ups b AAL-BSNT-NOT-RETRIEVABLE-confirm = refl
-message-kind p n mps ups b AA-ESTABLISH-request = refl
-message-kind p n mps ups b AA-ESTABLISH-response = refl
-message-kind p n mps ups b (AA-RELEASE-request uu) = refl
-message-kind p n mps ups b (AA-DATA-request mu) = of-unit (words.is mu NM) (words.is mu INS)
-message-kind p n mps ups b AA-RECOVER-response = refl
-message-kind p n mps ups b AA-RETRIEVE-request = refl
-message-kind p n mps ups b MAAL-PROVING-indication = refl
-message-kind p n mps ups b MAAL-STOP-PROVING-indication = refl
-message-kind p n mps ups b (MAAL-REPORT-indication x y z) = refl
-message-kind p n mps ups b Set-UPS=NM = refl
-message-kind p n mps ups b Set-UPS=EM = refl
-message-kind p n mps ups b Set-MPS=N = refl
-message-kind p n mps ups b Set-MPS=NM = refl
-message-kind p n mps ups b Set-MPS=EM = refl
-message-kind p n mps ups b Set-LPO=0 = refl
-message-kind p n mps ups b Set-LPO=1 = refl
-message-kind p n mps ups b Set-INS-flag = refl
-message-kind p n mps ups b Reset-INS-flag = refl
-message-kind p n mps ups b Generate-N1 = refl
-message-kind p n mps ups b Set-C1=N1 = refl
-message-kind p n mps ups b Decrement-C1 = refl
-message-kind p n mps ups b (Set t) = refl
-message-kind p n mps ups b (Reset t) = refl
-message-kind p n mps ups b connection-up = refl
-message-kind p n mps ups b take-BSNT = refl
-message-kind p n mps ups b (end t) = refl
+own-one : (p : ℕ) (n : Num) (mps : Mps) (ups : Ups) (b : Num) (a : Told) → messagesIn (signalOf p n mps ups b a .carries) ≡ cond (own-message a) 1 0
+own-one p n mps ups b Told.AAL-RECEIVED-MESSAGE-indication = refl
+own-one p n mps ups b Told.AAL-LINK-CONGESTED-indication = refl
+own-one p n mps ups b Told.AAL-LINK-CONGESTION-CEASED-indication = refl
+own-one p n mps ups b Told.AAL-IN-SERVICE-indication = refl
+own-one p n mps ups b Told.AAL-OUT-OF-SERVICE-indication = refl
+own-one p n mps ups b Told.AAL-RETRIEVED-MESSAGES-indication = refl
+own-one p n mps ups b Told.AAL-RETRIEVAL-COMPLETE-indication = refl
+own-one p n mps ups b Told.AAL-BSNT-confirm = refl
+own-one p n mps ups b Told.AAL-BSNT-NOT-RETRIEVABLE-confirm = refl
+own-one p n mps ups b Told.AA-ESTABLISH-request = refl
+own-one p n mps ups b Told.AA-ESTABLISH-response = refl
+own-one p n mps ups b (Told.AA-RELEASE-request uu) = refl
+own-one p n mps ups b (Told.AA-DATA-request mu) = of-unit (words.is mu NM) (words.is mu INS)
+own-one p n mps ups b Told.AA-RECOVER-response = refl
+own-one p n mps ups b Told.AA-RETRIEVE-request = refl
+own-one p n mps ups b Told.MAAL-PROVING-indication = refl
+own-one p n mps ups b Told.MAAL-STOP-PROVING-indication = refl
+own-one p n mps ups b (Told.MAAL-REPORT-indication x y z) = refl
+own-one p n mps ups b (Told.Set t) = refl
+own-one p n mps ups b (Told.Reset t) = refl
 
-message-kinds : (p : ℕ) (n : Num) (mps : Mps) (ups : Ups) (b : Num) (acts : List Act) → messages (map (signalOf p n mps ups b) acts) ≡ often 6 acts
-message-kinds p n mps ups b [] = refl
-message-kinds p n mps ups b (a ∷ acts) = rw (message-kind p n mps ups b a, message-kinds p n mps ups b acts)
+own-all : (p : ℕ) (n : Num) (mps : Mps) (ups : Ups) (b : Num) (all : List Told) → messages (map (signalOf p n mps ups b) all) ≡ own-messages all
+own-all p n mps ups b [] = refl
+own-all p n mps ups b (a ∷ all) = rw (own-one p n mps ups b a, own-all p n mps ups b all)
 
 keeps : (l : Link) (m : Meeting) (x : Choice) → Holds (five (l .state)) [] x → Holds (one-message (l .state)) [] x → Keeps l (outcomeOf l m (sum (m .heading .arrives) x))
 keeps l m illegal h k = tt
@@ -100,7 +84,7 @@ keeps l m (does acts next) h k =
       c1 = bounded (s .c1) (m .param) l;
       bsnt = kept-zero (s .takes) (m .number) (l .bsnt);
       five = rw (length-map (signalOf (m .param) (m .number) (l .mps) (l .ups) (l .bsnt .num)) (signals acts)) (leb-true (length (signals acts)) 5 h);
-      one-message = rw (message-kinds (m .param) (m .number) (l .mps) (l .ups) (l .bsnt .num) (signals acts)) (leb-true (often 6 (signals acts)) 1 k);
+      one-message = rw (own-all (m .param) (m .number) (l .mps) (l .ups) (l .bsnt .num) (signals acts)) (leb-true (own-messages (signals acts)) 1 k);
     }
 
 keeps-there : (l : Link) (v : View) → Keeps l (outcomeOf l (meetingOf v) (met (v .0) (l .state) (factsOf l v)))

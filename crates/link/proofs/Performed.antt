@@ -7,9 +7,9 @@ use lib.Dec.{eqb}
 use Rattle.unit.specs.declared.Arrived.{Arrived}
 use Rattle.table6.specs.declared.Facts.{Facts}
 use Rattle.table6.specs.declared.Met.{Met}
-use Rattle.table6.specs.Cell.{T1, T2, T3, Act, AAL-RECEIVED-MESSAGE-indication, AAL-LINK-CONGESTED-indication, AAL-LINK-CONGESTION-CEASED-indication, AAL-IN-SERVICE-indication, AAL-OUT-OF-SERVICE-indication, AAL-RETRIEVED-MESSAGES-indication, AAL-RETRIEVAL-COMPLETE-indication, AAL-BSNT-confirm, AAL-BSNT-NOT-RETRIEVABLE-confirm, AA-ESTABLISH-request, AA-ESTABLISH-response, AA-RELEASE-request, AA-DATA-request, AA-RECOVER-response, AA-RETRIEVE-request, MAAL-PROVING-indication, MAAL-STOP-PROVING-indication, MAAL-REPORT-indication, Set-UPS=NM, Set-UPS=EM, Set-MPS=N, Set-MPS=NM, Set-MPS=EM, Set-LPO=0, Set-LPO=1, Set-INS-flag, Reset-INS-flag, Generate-N1, Set-C1=N1, Decrement-C1, Set, Reset, connection-up, take-BSNT, end, cell, Choice, illegal, does, chosen}
+use Rattle.table6.specs.Cell.{T1, T2, T3, Told, Done, Act, tell, alter, cell, Choice, illegal, does, chosen}
 use Rattle.table6.specs.Order.{signals}
-use Rattle.table6.specs.Summary.{Summary, still, then, summary, Summed, refused, summed, sum}
+use Rattle.table6.specs.Summary.{Summary, still, then-told, then-done, then, summary, Summed, refused, summed, sum}
 use Rattle.table6.specs.Rows.{Heading, heading, printed}
 use Rattle.table6.specs.Stored.{metAs, met}
 use Rattle.link.specs.declared.Num.{Num}
@@ -17,55 +17,61 @@ use Rattle.link.specs.declared.Link.{Link}
 use Rattle.link.specs.declared.Event.{Event}
 use Rattle.link.specs.declared.Event.the-variants as event
 use Rattle.link.specs.declared.View.{View}
-use Rattle.link.specs.Effect.{with-state, effect, performed}
+use Rattle.link.specs.Effect.{with-state, telling, altering, effect, performed}
 use Rattle.link.specs.Signal.{signalOf}
 use Rattle.link.specs.Step.{Meeting, meets, meeting, facts, Outcome, Illegal, Legal, outcome, at-meeting, stepOf}
 use Rattle.link.specs.Stored.{viewOf, meetingOf, factsOf, summedUp}
 
 -- SUMMARIES
 
+one-told : (a : Told) (s : Summary) (p : ℕ) (n : Num) (l : Link) → telling a p l (summedUp s p n l) ≡ summedUp (then-told a s) p n l
+one-told Told.AAL-RECEIVED-MESSAGE-indication s p n l = refl
+one-told Told.AAL-LINK-CONGESTED-indication s p n l = refl
+one-told Told.AAL-LINK-CONGESTION-CEASED-indication s p n l = refl
+one-told Told.AAL-IN-SERVICE-indication s p n l = refl
+one-told Told.AAL-OUT-OF-SERVICE-indication s p n l = refl
+one-told Told.AAL-RETRIEVED-MESSAGES-indication s p n l = refl
+one-told Told.AAL-RETRIEVAL-COMPLETE-indication s p n l = refl
+one-told Told.AAL-BSNT-confirm s p n l = refl
+one-told Told.AAL-BSNT-NOT-RETRIEVABLE-confirm s p n l = refl
+one-told Told.AA-ESTABLISH-request s p n l = refl
+one-told Told.AA-ESTABLISH-response s p n l = refl
+one-told (Told.AA-RELEASE-request uu) s p n l = refl
+one-told (Told.AA-DATA-request mu) s p n l = refl
+one-told Told.AA-RECOVER-response s p n l = refl
+one-told Told.AA-RETRIEVE-request s p n l = refl
+one-told Told.MAAL-PROVING-indication s p n l = refl
+one-told Told.MAAL-STOP-PROVING-indication s p n l = refl
+one-told (Told.MAAL-REPORT-indication a b c) s p n l = refl
+one-told (Told.Set T1) s p n l = refl
+one-told (Told.Set T2) s p n l = refl
+one-told (Told.Set T3) s p n l = refl
+one-told (Told.Reset T1) s p n l = refl
+one-told (Told.Reset T2) s p n l = refl
+one-told (Told.Reset T3) s p n l = refl
+
+one-done : (a : Done) (s : Summary) (p : ℕ) (n : Num) (l : Link) → altering a p n l (summedUp s p n l) ≡ summedUp (then-done a s) p n l
+one-done Done.Set-UPS=NM s p n l = refl
+one-done Done.Set-UPS=EM s p n l = refl
+one-done Done.Set-MPS=N s p n l = refl
+one-done Done.Set-MPS=NM s p n l = refl
+one-done Done.Set-MPS=EM s p n l = refl
+one-done Done.Set-LPO=0 s p n l = refl
+one-done Done.Set-LPO=1 s p n l = refl
+one-done Done.Set-INS-flag s p n l = refl
+one-done Done.Reset-INS-flag s p n l = refl
+one-done Done.Generate-N1 s p n l = refl
+one-done Done.Set-C1=N1 s p n l = refl
+one-done Done.Decrement-C1 s p n l = refl
+one-done Done.connection-up s p n l = refl
+one-done Done.take-BSNT s p n l = refl
+one-done (Done.end T1) s p n l = refl
+one-done (Done.end T2) s p n l = refl
+one-done (Done.end T3) s p n l = refl
+
 one-act : (a : Act) (s : Summary) (p : ℕ) (n : Num) (l : Link) → effect a p n l (summedUp s p n l) ≡ summedUp (then a s) p n l
-one-act AAL-RECEIVED-MESSAGE-indication s p n l = refl
-one-act AAL-LINK-CONGESTED-indication s p n l = refl
-one-act AAL-LINK-CONGESTION-CEASED-indication s p n l = refl
-one-act AAL-IN-SERVICE-indication s p n l = refl
-one-act AAL-OUT-OF-SERVICE-indication s p n l = refl
-one-act AAL-RETRIEVED-MESSAGES-indication s p n l = refl
-one-act AAL-RETRIEVAL-COMPLETE-indication s p n l = refl
-one-act AAL-BSNT-confirm s p n l = refl
-one-act AAL-BSNT-NOT-RETRIEVABLE-confirm s p n l = refl
-one-act AA-ESTABLISH-request s p n l = refl
-one-act AA-ESTABLISH-response s p n l = refl
-one-act (AA-RELEASE-request uu) s p n l = refl
-one-act (AA-DATA-request mu) s p n l = refl
-one-act AA-RECOVER-response s p n l = refl
-one-act AA-RETRIEVE-request s p n l = refl
-one-act MAAL-PROVING-indication s p n l = refl
-one-act MAAL-STOP-PROVING-indication s p n l = refl
-one-act (MAAL-REPORT-indication a b c) s p n l = refl
-one-act Set-UPS=NM s p n l = refl
-one-act Set-UPS=EM s p n l = refl
-one-act Set-MPS=N s p n l = refl
-one-act Set-MPS=NM s p n l = refl
-one-act Set-MPS=EM s p n l = refl
-one-act Set-LPO=0 s p n l = refl
-one-act Set-LPO=1 s p n l = refl
-one-act Set-INS-flag s p n l = refl
-one-act Reset-INS-flag s p n l = refl
-one-act Generate-N1 s p n l = refl
-one-act Set-C1=N1 s p n l = refl
-one-act Decrement-C1 s p n l = refl
-one-act (Set T1) s p n l = refl
-one-act (Set T2) s p n l = refl
-one-act (Set T3) s p n l = refl
-one-act (Reset T1) s p n l = refl
-one-act (Reset T2) s p n l = refl
-one-act (Reset T3) s p n l = refl
-one-act connection-up s p n l = refl
-one-act take-BSNT s p n l = refl
-one-act (end T1) s p n l = refl
-one-act (end T2) s p n l = refl
-one-act (end T3) s p n l = refl
+one-act (tell a) s p n l = one-told a s p n l
+one-act (alter a) s p n l = one-done a s p n l
 
 all-acts : (acts : List Act) (s : Summary) (p : ℕ) (n : Num) (l : Link) → performed acts p n l (summedUp s p n l) ≡ summedUp (summary acts s) p n l
 all-acts [] s p n l = refl

@@ -4,16 +4,12 @@ use mathlib.Core.List.{List, [], _∷_, map}
 use Prim.Native.Nat.{ℕ, zero, suc, _%_, _<_}
 use native.Mathlib.Nat.{le-of-suc-le-suc, not-suc-le-zero, zero-add}
 use lib.ListN.{getD, length}
-use Rattle.table6.specs.Cell.{Act, MAAL-PROVING-indication}
+use Rattle.table6.specs.Cell.{MAAL-PROVING-indication}
 use Rattle.table6.specs.Stored.{wordAt, from, octet, said}
 use Rattle.table6.proofs.Lists.{getD-from}
 use Rattle.link.specs.declared.Signal.{Signal}
 use Rattle.link.specs.declared.Said.{Said}
-use Rattle.link.specs.Signal.{signalOf}
-use Rattle.link.specs.Stored.{signalsOf}
-
-abbrev pub meantBy : Said → Act → Signal
-meantBy o a = signalOf (o .param) (o .num) (o .mps) (o .ups) (o .bsnt) a
+use Rattle.link.specs.Stored.{meantBy, signalsOf}
 
 length-from : (f : ℕ → ℕ) (i n : ℕ) → length (from f i n) ≡ n
 length-from f i zero = refl

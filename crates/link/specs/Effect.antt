@@ -6,7 +6,7 @@ use Rattle.unit.specs.declared.Mps.{Mps}
 use Rattle.unit.specs.declared.Ups.{Ups}
 use Rattle.unit.specs.Proving.{asked, table7}
 use Rattle.table6.specs.declared.State.{State}
-use Rattle.table6.specs.Cell.{Timer, T1, T2, T3, Act, AAL-RECEIVED-MESSAGE-indication, AAL-LINK-CONGESTED-indication, AAL-LINK-CONGESTION-CEASED-indication, AAL-IN-SERVICE-indication, AAL-OUT-OF-SERVICE-indication, AAL-RETRIEVED-MESSAGES-indication, AAL-RETRIEVAL-COMPLETE-indication, AAL-BSNT-confirm, AAL-BSNT-NOT-RETRIEVABLE-confirm, AA-ESTABLISH-request, AA-ESTABLISH-response, AA-RELEASE-request, AA-DATA-request, AA-RECOVER-response, AA-RETRIEVE-request, MAAL-PROVING-indication, MAAL-STOP-PROVING-indication, MAAL-REPORT-indication, Set-UPS=NM, Set-UPS=EM, Set-MPS=N, Set-MPS=NM, Set-MPS=EM, Set-LPO=0, Set-LPO=1, Set-INS-flag, Reset-INS-flag, Generate-N1, Set-C1=N1, Decrement-C1, Set, Reset, connection-up, take-BSNT, end}
+use Rattle.table6.specs.Cell.{Timer, T1, T2, T3, Told, Done, Act, tell, alter}
 use Rattle.link.specs.declared.Num.{Num}
 use Rattle.link.specs.declared.Bsnt.{Bsnt}
 use Rattle.link.specs.declared.Link.{Link}
@@ -40,47 +40,58 @@ with-timer T3 x l = record { state = l .state; ins = l .ins; lpo = l .lpo; mps =
 abbrev pub taken : Num → Bsnt
 taken n = record { known = true; num = n }
 
--- A connection comes up, with the peer's field: the INS flag is cleared and C1 is decided by Table 7, from MPS and UPS as the event found them.
-abbrev pub up : Link → ℕ → Link → Link
-up found field l = with-ins false (with-c1 (table7 (found .mps) (found .ups) (asked field) (found .n1)) l)
+-- Generate N1: by Table 7, from the peer's field and from MPS and UPS as the event found them.
+abbrev pub generated : Link → ℕ → ℕ
+generated found field = table7 (found .mps) (found .ups) (asked field) (found .n1)
 
--- One action, of an event with this field and this number, on the record that the event found and on what has become of it.
+-- A connection comes up, with the peer's field: the INS flag is cleared and C1 is decided.
+abbrev pub up : Link → ℕ → Link → Link
+up found field l = with-ins false (with-c1 (generated found field) l)
+
+-- One action, of an event with this field and this number, on the record that the event found and on what has become of it. Telling alters the record
+-- only where it brings a connection up or orders a timer.
+abbrev pub telling : Told → ℕ → Link → Link → Link
+telling Told.AAL-RECEIVED-MESSAGE-indication field found l = l
+telling Told.AAL-LINK-CONGESTED-indication field found l = l
+telling Told.AAL-LINK-CONGESTION-CEASED-indication field found l = l
+telling Told.AAL-IN-SERVICE-indication field found l = l
+telling Told.AAL-OUT-OF-SERVICE-indication field found l = l
+telling Told.AAL-RETRIEVED-MESSAGES-indication field found l = l
+telling Told.AAL-RETRIEVAL-COMPLETE-indication field found l = l
+telling Told.AAL-BSNT-confirm field found l = l
+telling Told.AAL-BSNT-NOT-RETRIEVABLE-confirm field found l = l
+telling Told.AA-ESTABLISH-request field found l = l
+telling Told.AA-ESTABLISH-response field found l = up found field l
+telling (Told.AA-RELEASE-request uu) field found l = l
+telling (Told.AA-DATA-request mu) field found l = l
+telling Told.AA-RECOVER-response field found l = l
+telling Told.AA-RETRIEVE-request field found l = l
+telling Told.MAAL-PROVING-indication field found l = l
+telling Told.MAAL-STOP-PROVING-indication field found l = l
+telling (Told.MAAL-REPORT-indication a b c) field found l = l
+telling (Told.Set t) field found l = with-timer t true l
+telling (Told.Reset t) field found l = with-timer t false l
+
+abbrev pub altering : Done → ℕ → Num → Link → Link → Link
+altering Done.Set-UPS=NM field n found l = with-ups Ups.Normal l
+altering Done.Set-UPS=EM field n found l = with-ups Ups.Emergency l
+altering Done.Set-MPS=N field n found l = with-mps Mps.Neutral l
+altering Done.Set-MPS=NM field n found l = with-mps Mps.Normal l
+altering Done.Set-MPS=EM field n found l = with-mps Mps.Emergency l
+altering Done.Set-LPO=0 field n found l = with-lpo false l
+altering Done.Set-LPO=1 field n found l = with-lpo true l
+altering Done.Set-INS-flag field n found l = with-ins true l
+altering Done.Reset-INS-flag field n found l = with-ins false l
+altering Done.Generate-N1 field n found l = l
+altering Done.Set-C1=N1 field n found l = with-c1 (generated found field) l
+altering Done.Decrement-C1 field n found l = with-c1 (l .c1 - 1) l
+altering Done.connection-up field n found l = up found field l
+altering Done.take-BSNT field n found l = with-bsnt (taken n) l
+altering (Done.end t) field n found l = with-timer t false l
+
 abbrev pub effect : Act → ℕ → Num → Link → Link → Link
-effect AAL-RECEIVED-MESSAGE-indication field n found l = l
-effect AAL-LINK-CONGESTED-indication field n found l = l
-effect AAL-LINK-CONGESTION-CEASED-indication field n found l = l
-effect AAL-IN-SERVICE-indication field n found l = l
-effect AAL-OUT-OF-SERVICE-indication field n found l = l
-effect AAL-RETRIEVED-MESSAGES-indication field n found l = l
-effect AAL-RETRIEVAL-COMPLETE-indication field n found l = l
-effect AAL-BSNT-confirm field n found l = l
-effect AAL-BSNT-NOT-RETRIEVABLE-confirm field n found l = l
-effect AA-ESTABLISH-request field n found l = l
-effect AA-ESTABLISH-response field n found l = up found field l
-effect (AA-RELEASE-request uu) field n found l = l
-effect (AA-DATA-request mu) field n found l = l
-effect AA-RECOVER-response field n found l = l
-effect AA-RETRIEVE-request field n found l = l
-effect MAAL-PROVING-indication field n found l = l
-effect MAAL-STOP-PROVING-indication field n found l = l
-effect (MAAL-REPORT-indication a b c) field n found l = l
-effect Set-UPS=NM field n found l = with-ups Ups.Normal l
-effect Set-UPS=EM field n found l = with-ups Ups.Emergency l
-effect Set-MPS=N field n found l = with-mps Mps.Neutral l
-effect Set-MPS=NM field n found l = with-mps Mps.Normal l
-effect Set-MPS=EM field n found l = with-mps Mps.Emergency l
-effect Set-LPO=0 field n found l = with-lpo false l
-effect Set-LPO=1 field n found l = with-lpo true l
-effect Set-INS-flag field n found l = with-ins true l
-effect Reset-INS-flag field n found l = with-ins false l
-effect Generate-N1 field n found l = l
-effect Set-C1=N1 field n found l = with-c1 (table7 (found .mps) (found .ups) (asked field) (found .n1)) l
-effect Decrement-C1 field n found l = with-c1 (l .c1 - 1) l
-effect (Set t) field n found l = with-timer t true l
-effect (Reset t) field n found l = with-timer t false l
-effect connection-up field n found l = up found field l
-effect take-BSNT field n found l = with-bsnt (taken n) l
-effect (end t) field n found l = with-timer t false l
+effect (tell a) field n found l = telling a field found l
+effect (alter a) field n found l = altering a field n found l
 
 abbrev pub performed : List Act → ℕ → Num → Link → Link → Link
 performed [] field n found l = l

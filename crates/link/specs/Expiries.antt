@@ -4,14 +4,13 @@ use mathlib.Core.Path.{_≡_}
 use mathlib.Core.Bool.{true, false}
 use mathlib.Core.List.{List, [], _∷_, _++_}
 use Rattle.unit.specs.declared.Status.{Status}
-use Rattle.unit.specs.Proving.{asked, table7}
 use Rattle.table6.specs.declared.State.{State}
 use Rattle.table6.specs.Words.{2/1/2, 2/2/2, 2/10/3}
 use Rattle.link.specs.declared.Link.{Link}
 use Rattle.link.specs.declared.Signal.{Signal}
 use Rattle.link.specs.declared.Event.{Event}
 use Rattle.link.specs.declared.Event.the-variants as event
-use Rattle.link.specs.Effect.{with-c1}
+use Rattle.link.specs.Effect.{with-c1, generated}
 use Rattle.link.specs.Signal.{bare}
 use Rattle.link.specs.Step.{named, Outcome, Illegal, Legal, stepOf}
 use Rattle.link.specs.Twelve.{unit}
@@ -43,7 +42,7 @@ pub record ToProve (l : Link) : Type 0 where
 -- That is so where a connection comes up in a state by an event whose field is EM or NM and for which Table 7 generates n1.
 abbrev pub ComesUp : State → (ℕ → Event) → Type 0
 ComesUp s e =
-    (l : Link) (field : ℕ) → l .state ≡ s → named field ≡ true → table7 (l .mps) (l .ups) (asked field) (l .n1) ≡ l .n1 →
+    (l : Link) (field : ℕ) → l .state ≡ s → named field ≡ true → generated l field ≡ l .n1 →
     (after : Link) × (said : List Signal) × (stepOf l (e field) ≡ Legal after said) × ToProve after
 
 abbrev pub Confirmed : Type 0

@@ -1,5 +1,5 @@
 -- The signals of Table 6 as records, with document 01's codes.
-use Prim.Native.Nat.{ℕ, _+_}
+use Prim.Native.Nat.{ℕ}
 use mathlib.Core.Bool.{cond}
 use Rattle.unit.specs.declared.Mps.{Mps}
 use Rattle.unit.specs.declared.Ups.{Ups}
@@ -7,7 +7,8 @@ use Rattle.unit.specs.declared.Status.{Status}
 use Rattle.unit.specs.Unit.{code}
 use Rattle.unit.specs.Proving.{table8}
 use Rattle.table6.specs.Words.{Abbreviation, NM, INS, SSCOP-UU, is, field, first, second, third}
-use Rattle.table6.specs.Cell.{Timer, T1, T2, T3, Act, AAL-RECEIVED-MESSAGE-indication, AAL-LINK-CONGESTED-indication, AAL-LINK-CONGESTION-CEASED-indication, AAL-IN-SERVICE-indication, AAL-OUT-OF-SERVICE-indication, AAL-RETRIEVED-MESSAGES-indication, AAL-RETRIEVAL-COMPLETE-indication, AAL-BSNT-confirm, AAL-BSNT-NOT-RETRIEVABLE-confirm, AA-ESTABLISH-request, AA-ESTABLISH-response, AA-RELEASE-request, AA-DATA-request, AA-RECOVER-response, AA-RETRIEVE-request, MAAL-PROVING-indication, MAAL-STOP-PROVING-indication, MAAL-REPORT-indication, Set-UPS=NM, Set-UPS=EM, Set-MPS=N, Set-MPS=NM, Set-MPS=EM, Set-LPO=0, Set-LPO=1, Set-INS-flag, Reset-INS-flag, Generate-N1, Set-C1=N1, Decrement-C1, Set, Reset, connection-up, take-BSNT, end}
+use Rattle.table6.specs.Cell.{Told}
+use Rattle.table6.specs.SignalCodes as signals
 use Rattle.link.specs.declared.Num.{Num}
 use Rattle.link.specs.declared.Carries.{Carries}
 use Rattle.link.specs.declared.Signal.{Signal}
@@ -28,46 +29,27 @@ bare code = signal code 0 none Carries.Nothing
 abbrev pub mu : Abbreviation → Carries
 mu a = cond (is a NM) (Carries.Unit Status.NM) (cond (is a INS) (Carries.Unit Status.INS) Carries.Message)
 
-abbrev pub ordinal : Timer → ℕ
-ordinal T1 = 0
-ordinal T2 = 1
-ordinal T3 = 2
-
--- The signal of an action. It may carry the event's parameter (the peer's field, a level) or its number, the proving status that MPS and UPS give by
+-- What is told, as a record. It may carry the event's parameter (the peer's field, a level) or its number, the proving status that MPS and UPS give by
 -- Table 8, or BSNT. BR is No, 0.
-abbrev pub signalOf : ℕ → Num → Mps → Ups → Num → Act → Signal
-signalOf param n mps ups b AAL-RECEIVED-MESSAGE-indication = signal 1 0 none Carries.Message
-signalOf param n mps ups b AAL-LINK-CONGESTED-indication = signal 2 param none Carries.Nothing
-signalOf param n mps ups b AAL-LINK-CONGESTION-CEASED-indication = bare 3
-signalOf param n mps ups b AAL-IN-SERVICE-indication = bare 4
-signalOf param n mps ups b AAL-OUT-OF-SERVICE-indication = bare 5
-signalOf param n mps ups b AAL-RETRIEVED-MESSAGES-indication = signal 6 0 none Carries.Message
-signalOf param n mps ups b AAL-RETRIEVAL-COMPLETE-indication = bare 7
-signalOf param n mps ups b AAL-BSNT-confirm = signal 8 0 b Carries.Nothing
-signalOf param n mps ups b AAL-BSNT-NOT-RETRIEVABLE-confirm = bare 9
-signalOf param n mps ups b AA-ESTABLISH-request = signal 16 (code (table8 mps ups)) none Carries.Nothing
-signalOf param n mps ups b AA-ESTABLISH-response = signal 17 (code (table8 mps ups)) none Carries.Nothing
-signalOf param n mps ups b (AA-RELEASE-request uu) = signal 18 (field uu) none Carries.Nothing
-signalOf param n mps ups b (AA-DATA-request x) = signal 19 0 none (mu x)
-signalOf param n mps ups b AA-RECOVER-response = bare 20
-signalOf param n mps ups b AA-RETRIEVE-request = signal 21 0 n Carries.Nothing
-signalOf param n mps ups b MAAL-PROVING-indication = bare 32
-signalOf param n mps ups b MAAL-STOP-PROVING-indication = bare 33
-signalOf param n mps ups b (MAAL-REPORT-indication x y z) = signal 34 (cond (is z SSCOP-UU) param 0) (num (first x) (second y) (third z)) Carries.Nothing
-signalOf param n mps ups b Set-UPS=NM = bare 0  -- no signal
-signalOf param n mps ups b Set-UPS=EM = bare 0  -- no signal
-signalOf param n mps ups b Set-MPS=N = bare 0  -- no signal
-signalOf param n mps ups b Set-MPS=NM = bare 0  -- no signal
-signalOf param n mps ups b Set-MPS=EM = bare 0  -- no signal
-signalOf param n mps ups b Set-LPO=0 = bare 0  -- no signal
-signalOf param n mps ups b Set-LPO=1 = bare 0  -- no signal
-signalOf param n mps ups b Set-INS-flag = bare 0  -- no signal
-signalOf param n mps ups b Reset-INS-flag = bare 0  -- no signal
-signalOf param n mps ups b Generate-N1 = bare 0  -- no signal
-signalOf param n mps ups b Set-C1=N1 = bare 0  -- no signal
-signalOf param n mps ups b Decrement-C1 = bare 0  -- no signal
-signalOf param n mps ups b (Set t) = bare (48 + ordinal t)
-signalOf param n mps ups b (Reset t) = bare (56 + ordinal t)
-signalOf param n mps ups b connection-up = bare 0  -- no signal
-signalOf param n mps ups b take-BSNT = bare 0  -- no signal
-signalOf param n mps ups b (end t) = bare 0  -- no signal
+abbrev pub signalOf : ℕ → Num → Mps → Ups → Num → Told → Signal
+signalOf param n mps ups b Told.AAL-RECEIVED-MESSAGE-indication = signal signals.RECEIVED-MESSAGE 0 none Carries.Message
+signalOf param n mps ups b Told.AAL-LINK-CONGESTED-indication = signal signals.LINK-CONGESTED param none Carries.Nothing
+signalOf param n mps ups b Told.AAL-LINK-CONGESTION-CEASED-indication = bare signals.CONGESTION-CEASED
+signalOf param n mps ups b Told.AAL-IN-SERVICE-indication = bare signals.IN-SERVICE
+signalOf param n mps ups b Told.AAL-OUT-OF-SERVICE-indication = bare signals.OUT-OF-SERVICE
+signalOf param n mps ups b Told.AAL-RETRIEVED-MESSAGES-indication = signal signals.RETRIEVED-MESSAGES 0 none Carries.Message
+signalOf param n mps ups b Told.AAL-RETRIEVAL-COMPLETE-indication = bare signals.RETRIEVAL-COMPLETE
+signalOf param n mps ups b Told.AAL-BSNT-confirm = signal signals.BSNT 0 b Carries.Nothing
+signalOf param n mps ups b Told.AAL-BSNT-NOT-RETRIEVABLE-confirm = bare signals.BSNT-NOT-RETRIEVABLE
+signalOf param n mps ups b Told.AA-ESTABLISH-request = signal signals.ESTABLISH-request (code (table8 mps ups)) none Carries.Nothing
+signalOf param n mps ups b Told.AA-ESTABLISH-response = signal signals.ESTABLISH-response (code (table8 mps ups)) none Carries.Nothing
+signalOf param n mps ups b (Told.AA-RELEASE-request uu) = signal signals.RELEASE-request (field uu) none Carries.Nothing
+signalOf param n mps ups b (Told.AA-DATA-request x) = signal signals.DATA-request 0 none (mu x)
+signalOf param n mps ups b Told.AA-RECOVER-response = bare signals.RECOVER-response
+signalOf param n mps ups b Told.AA-RETRIEVE-request = signal signals.RETRIEVE-request 0 n Carries.Nothing
+signalOf param n mps ups b Told.MAAL-PROVING-indication = bare signals.START-PROVING
+signalOf param n mps ups b Told.MAAL-STOP-PROVING-indication = bare signals.STOP-PROVING
+signalOf param n mps ups b (Told.MAAL-REPORT-indication x y z) =
+    signal signals.REPORT (cond (is z SSCOP-UU) param 0) (num (first x) (second y) (third z)) Carries.Nothing
+signalOf param n mps ups b (Told.Set t) = bare (signals.code (Told.Set t))
+signalOf param n mps ups b (Told.Reset t) = bare (signals.code (Told.Reset t))

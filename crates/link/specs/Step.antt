@@ -8,7 +8,7 @@ use Rattle.unit.specs.declared.Arrived.{Arrived}
 use Rattle.unit.specs.Unit.{code}
 use Rattle.table6.specs.declared.Facts.{Facts}
 use Rattle.table6.specs.Cell.{T1, T2, T3, take-BSNT, end, cell, Choice, illegal, does, chosen}
-use Rattle.table6.specs.Table6.{AAL-MESSAGE-FOR-TRANSMISSION-request, AAL-EMERGENCY-request, AAL-EMERGENCY-CEASES-request, AAL-STOP-request, AAL-START-request, AAL-RETRIEVE-BSNT-request, AAL-RETRIEVAL-REQUEST-AND-FSNC-request, AAL-FLUSH-BUFFERS-request, AAL-CONTINUE-request, AA-RELEASE-confirm, AA-DATA-indication-with-INS, AA-DATA-indication-with-NM, AA-DATA-indication-with-other, AA-DATA-indication-with-MU>4, AA-RESYNC-indication, AA-RECOVER-indication, AA-UNITDATA-indication, AA-RETRIEVE-indication, AA-RETRIEVE-COMPLETE-indication, MAAL-PROVING-UNSUCCESSFUL-response, MAAL-RELEASE-request, MAAL-LOCAL-PROCESSOR-OUTAGE-request, MAAL-LOCAL-PROCESSOR-RECOVERED-request, MAAL-FORCE-PROVING-request, MAAL-FORCE-EMERGENCY-request, MAAL-CLEAR-FORCE-MODES-request, Local-Congestion, Local-Congestion-Ceased, T1-expires, T2-expires, T3-expires-and-C1>0, T3-expires-and-C1=0}
+use Rattle.table6.specs.Table6 as paper
 use Rattle.table6.specs.Order.{signals}
 use Rattle.table6.specs.Rows.{Heading, plain, behind, AA-ESTABLISH-indication, AA-ESTABLISH-confirm, AA-RELEASE-indication, printed}
 use Rattle.link.specs.declared.Num.{Num}
@@ -35,46 +35,46 @@ with-param p h = record { heading = h; param = p; number = none; source = 0; len
 
 -- The row of data by what arrived, and of a T3 expiry by C1.
 abbrev pub dataRow : Arrived → Heading
-dataRow Arrived.INS = behind take-BSNT AA-DATA-indication-with-INS
-dataRow Arrived.NM = behind take-BSNT AA-DATA-indication-with-NM
-dataRow (Arrived.Other status) = behind take-BSNT AA-DATA-indication-with-other
-dataRow Arrived.Short = behind take-BSNT AA-DATA-indication-with-other
-dataRow Arrived.Long = behind take-BSNT AA-DATA-indication-with-MU>4
+dataRow Arrived.INS = behind take-BSNT paper.AA-DATA-indication-with-INS
+dataRow Arrived.NM = behind take-BSNT paper.AA-DATA-indication-with-NM
+dataRow (Arrived.Other status) = behind take-BSNT paper.AA-DATA-indication-with-other
+dataRow Arrived.Short = behind take-BSNT paper.AA-DATA-indication-with-other
+dataRow Arrived.Long = behind take-BSNT paper.AA-DATA-indication-with-MU>4
 
 abbrev pub t3Row : ℕ → Heading
-t3Row c1 = cond (eqb c1 0) (behind (end T3) T3-expires-and-C1=0) (behind (end T3) T3-expires-and-C1>0)
+t3Row c1 = cond (eqb c1 0) (behind (end T3) paper.T3-expires-and-C1=0) (behind (end T3) paper.T3-expires-and-C1>0)
 
 abbrev pub meeting : Event → ℕ → Meeting
-meeting event.Message c1 = meets (plain AAL-MESSAGE-FOR-TRANSMISSION-request)
-meeting event.Emergency c1 = meets (plain AAL-EMERGENCY-request)
-meeting event.EmergencyCeases c1 = meets (plain AAL-EMERGENCY-CEASES-request)
-meeting event.Stop c1 = meets (plain AAL-STOP-request)
-meeting event.Start c1 = meets (plain AAL-START-request)
-meeting event.RetrieveBsnt c1 = meets (plain AAL-RETRIEVE-BSNT-request)
-meeting (event.Retrieval n) c1 = record { heading = plain AAL-RETRIEVAL-REQUEST-AND-FSNC-request; param = 0; number = n; source = 0; len = 0 }
-meeting event.FlushBuffers c1 = meets (plain AAL-FLUSH-BUFFERS-request)
-meeting event.Continue c1 = meets (plain AAL-CONTINUE-request)
+meeting event.Message c1 = meets (plain paper.AAL-MESSAGE-FOR-TRANSMISSION-request)
+meeting event.Emergency c1 = meets (plain paper.AAL-EMERGENCY-request)
+meeting event.EmergencyCeases c1 = meets (plain paper.AAL-EMERGENCY-CEASES-request)
+meeting event.Stop c1 = meets (plain paper.AAL-STOP-request)
+meeting event.Start c1 = meets (plain paper.AAL-START-request)
+meeting event.RetrieveBsnt c1 = meets (plain paper.AAL-RETRIEVE-BSNT-request)
+meeting (event.Retrieval n) c1 = record { heading = plain paper.AAL-RETRIEVAL-REQUEST-AND-FSNC-request; param = 0; number = n; source = 0; len = 0 }
+meeting event.FlushBuffers c1 = meets (plain paper.AAL-FLUSH-BUFFERS-request)
+meeting event.Continue c1 = meets (plain paper.AAL-CONTINUE-request)
 meeting (event.EstablishIndication f) c1 = with-param f AA-ESTABLISH-indication
 meeting (event.EstablishConfirm f) c1 = with-param f AA-ESTABLISH-confirm
 meeting (event.ReleaseIndication f s) c1 = record { heading = AA-RELEASE-indication; param = f; number = none; source = s; len = 0 }
-meeting event.ReleaseConfirm c1 = meets (plain AA-RELEASE-confirm)
+meeting event.ReleaseConfirm c1 = meets (plain paper.AA-RELEASE-confirm)
 meeting (event.Data a n) c1 = record { heading = dataRow a; param = 0; number = n; source = 0; len = 0 }
-meeting event.Resync c1 = meets (plain AA-RESYNC-indication)
-meeting event.Recover c1 = meets (plain AA-RECOVER-indication)
-meeting event.UnitData c1 = meets (plain AA-UNITDATA-indication)
-meeting (event.Retrieve k) c1 = record { heading = plain AA-RETRIEVE-indication; param = 0; number = none; source = 0; len = k }
-meeting event.RetrieveComplete c1 = meets (plain AA-RETRIEVE-COMPLETE-indication)
-meeting event.ProvingUnsuccessful c1 = meets (plain MAAL-PROVING-UNSUCCESSFUL-response)
-meeting event.Release c1 = meets (plain MAAL-RELEASE-request)
-meeting event.Outage c1 = meets (plain MAAL-LOCAL-PROCESSOR-OUTAGE-request)
-meeting event.Recovered c1 = meets (plain MAAL-LOCAL-PROCESSOR-RECOVERED-request)
-meeting event.ForceProving c1 = meets (plain MAAL-FORCE-PROVING-request)
-meeting event.ForceEmergency c1 = meets (plain MAAL-FORCE-EMERGENCY-request)
-meeting event.ClearForceModes c1 = meets (plain MAAL-CLEAR-FORCE-MODES-request)
-meeting (event.Congestion level) c1 = with-param level (plain Local-Congestion)
-meeting event.CongestionCeased c1 = meets (plain Local-Congestion-Ceased)
-meeting event.T1 c1 = meets (behind (end T1) T1-expires)
-meeting event.T2 c1 = meets (behind (end T2) T2-expires)
+meeting event.Resync c1 = meets (plain paper.AA-RESYNC-indication)
+meeting event.Recover c1 = meets (plain paper.AA-RECOVER-indication)
+meeting event.UnitData c1 = meets (plain paper.AA-UNITDATA-indication)
+meeting (event.Retrieve k) c1 = record { heading = plain paper.AA-RETRIEVE-indication; param = 0; number = none; source = 0; len = k }
+meeting event.RetrieveComplete c1 = meets (plain paper.AA-RETRIEVE-COMPLETE-indication)
+meeting event.ProvingUnsuccessful c1 = meets (plain paper.MAAL-PROVING-UNSUCCESSFUL-response)
+meeting event.Release c1 = meets (plain paper.MAAL-RELEASE-request)
+meeting event.Outage c1 = meets (plain paper.MAAL-LOCAL-PROCESSOR-OUTAGE-request)
+meeting event.Recovered c1 = meets (plain paper.MAAL-LOCAL-PROCESSOR-RECOVERED-request)
+meeting event.ForceProving c1 = meets (plain paper.MAAL-FORCE-PROVING-request)
+meeting event.ForceEmergency c1 = meets (plain paper.MAAL-FORCE-EMERGENCY-request)
+meeting event.ClearForceModes c1 = meets (plain paper.MAAL-CLEAR-FORCE-MODES-request)
+meeting (event.Congestion level) c1 = with-param level (plain paper.Local-Congestion)
+meeting event.CongestionCeased c1 = meets (plain paper.Local-Congestion-Ceased)
+meeting event.T1 c1 = meets (behind (end T1) paper.T1-expires)
+meeting event.T2 c1 = meets (behind (end T2) paper.T2-expires)
 meeting event.T3 c1 = meets (t3Row c1)
 
 -- A field that is EM or NM.

@@ -4,9 +4,9 @@ use mathlib.Core.Bool.{cond}
 use mathlib.Core.List.{List, map}
 use lib.Dec.{eqb, ltb}
 use Rattle.unit.specs.declared.Arrived.{Arrived}
-use Rattle.unit.specs.Proving.{asked, table7}
 use Rattle.table6.specs.declared.Facts.{Facts}
 use Rattle.table6.specs.Summary.{over, Count, same, decided, less, Summary}
+use Rattle.table6.specs.Cell.{Told}
 use Rattle.table6.specs.Rows.{heading}
 use Rattle.table6.specs.Stored.{said}
 use Rattle.link.specs.declared.Num.{Num}
@@ -17,7 +17,7 @@ use Rattle.link.specs.declared.View.{View}
 use Rattle.link.specs.declared.Signal.{Signal}
 use Rattle.link.specs.declared.Said.{Said}
 use Rattle.link.specs.declared.Answer.{Answer}
-use Rattle.link.specs.Effect.{taken}
+use Rattle.link.specs.Effect.{taken, generated}
 use Rattle.link.specs.Signal.{none, signalOf}
 use Rattle.link.specs.Step.{Meeting, named, Outcome, Illegal, Legal}
 
@@ -78,7 +78,7 @@ factsOf l v =
 
 abbrev pub counted : Count → ℕ → Link → ℕ
 counted same field l = l .c1
-counted decided field l = table7 (l .mps) (l .ups) (asked field) (l .n1)
+counted decided field l = generated l field
 counted (less c) field l = counted c field l - 1
 
 -- a summary applied, with the event's field and number
@@ -100,8 +100,12 @@ summedUp s field n l =
 
 -- SIGNALS
 
+-- what is told, with what the step says beside its words
+abbrev pub meantBy : Said → Told → Signal
+meantBy o a = signalOf (o .param) (o .num) (o .mps) (o .ups) (o .bsnt) a
+
 unfoldable pub signalsOf : Said → List Signal
-signalsOf o = map (signalOf (o .param) (o .num) (o .mps) (o .ups) (o .bsnt)) (said (o .words))
+signalsOf o = map (meantBy o) (said (o .words))
 
 -- ANSWERS
 

@@ -298,27 +298,28 @@ fn c1_after(x: u8, l: Link, field: u8) -> u16
 fn applied(c: Change, v: View, l: Link) -> Link
     ensures { λ r. ⌜ r ≡ with-state (over (stateOp (c .0)) (l .state)) (summedUp (changed c) (v .1) (v .2) l) ⌝ }
 {
-    let state = l.state;
-    let mps = l.mps;
-    let ups = l.ups;
+    let Change(to, ins, lpo, mps, ups, t1, t2, t3, c1, bsnt) = c;
+    let old_state = l.state;
+    let old_mps = l.mps;
+    let old_ups = l.ups;
     Link {
-        state: state_after(c.0, state),
-        ins: flag_after(c.1, l.ins),
-        lpo: flag_after(c.2, l.lpo),
-        mps: mps_after(c.3, mps),
-        ups: ups_after(c.4, ups),
-        t1: flag_after(c.5, l.t1),
-        t2: flag_after(c.6, l.t2),
-        t3: flag_after(c.7, l.t3),
+        state: state_after(to, old_state),
+        ins: flag_after(ins, l.ins),
+        lpo: flag_after(lpo, l.lpo),
+        mps: mps_after(mps, old_mps),
+        ups: ups_after(ups, old_ups),
+        t1: flag_after(t1, l.t1),
+        t2: flag_after(t2, l.t2),
+        t3: flag_after(t3, l.t3),
         bsnt: Bsnt {
-            known: known_after(c.9, l.bsnt.known),
+            known: known_after(bsnt, l.bsnt.known),
             num: Num {
-                a: octet_after(c.9, v.2.a, l.bsnt.num.a),
-                b: octet_after(c.9, v.2.b, l.bsnt.num.b),
-                c: octet_after(c.9, v.2.c, l.bsnt.num.c),
+                a: octet_after(bsnt, v.2.a, l.bsnt.num.a),
+                b: octet_after(bsnt, v.2.b, l.bsnt.num.b),
+                c: octet_after(bsnt, v.2.c, l.bsnt.num.c),
             },
         },
-        c1: c1_after(c.8, l, v.1),
+        c1: c1_after(c1, l, v.1),
         n1: l.n1,
     }
 }

@@ -9,14 +9,16 @@ use lib.ListN.{length, take, drop, getD, set, length-set, length-append, take-ap
 use lib.Pow.{pow-add}
 use lib.Seq.{take-suc, take-append-seam, drop-append-seam}
 use Rattle.unit.specs.Unit.{unitOf}
+use Rattle.table6.specs.Stored.{wordAt}
 use Rattle.table6.proofs.Lists.{alike}
 use Rattle.link.specs.declared.Carries.{Carries}
 use Rattle.link.specs.declared.Said.{Said}
 use Rattle.link.specs.declared.Signal.{Signal}
 use Rattle.link.specs.Kept.{messagesIn, messages}
+use Rattle.link.specs.Stored.{meantBy}
 use Rattle.octet.specs.Octets.{at, over, putAt}
 use Rattle.event.specs.Frame.{SG, written, linkAt, lengthAt}
-use Rattle.signal.specs.SignalRecord.{bodyOf, signalOctets, joined, told, fromCode, fixedAt, Put, PutCode, SignalReread, SignalRewritten, SignalsApart}
+use Rattle.signal.specs.SignalRecord.{bodyOf, signalOctets, joined, fromCode, fixedAt, Put, PutCode, SignalReread, SignalRewritten, SignalsApart}
 use Rattle.octet.proofs.Over.{lent, behind, put-behind, put-set}
 use Rattle.octet.proofs.Octets.{high-same, low-same}
 use Rattle.event.proofs.Frame.{frame-reread, frame-rewritten, two-back, written-length}
@@ -30,9 +32,9 @@ body-small Carries.Message m h = h
 -- ONE SIGNAL, as the code writes it
 
 -- of a word that is known beforehand nothing that the event or the link brings is told
-pub fixed-known : (o : Said) (m : List ℕ) (w : ℕ) → w < 36 → fixedAt w ≡ fromCode m (told o w)
+pub fixed-known : (o : Said) (m : List ℕ) (w : ℕ) → w < 36 → fixedAt w ≡ fromCode m (meantBy o (wordAt w))
 unfolding fixedAt
-fixed-known o m w h = alike fixedAt (λ w. fromCode m (told o w)) 36 [] refl w h
+fixed-known o m w h = alike fixedAt (λ w. fromCode m (meantBy o (wordAt w))) 36 [] refl w h
 
 -- eight octets are written; some are stored anew, and a message is put behind them
 module _ {s d d₁ : List ℕ} {r : ℕ} (p : PutCode s d r d₁) (h : 12 ≤ length d) where

@@ -9,7 +9,6 @@ use Rattle.unit.specs.declared.Ups.{Ups}
 use Rattle.unit.specs.Unit.{unitOf}
 use Rattle.table6.specs.Stored.{wordAt, from}
 use Rattle.link.specs.declared.Carries.{Carries}
-use Rattle.link.specs.declared.Said.{Said}
 use Rattle.link.specs.declared.Signal.{Signal}
 use Rattle.link.specs.Signal.{none, signalOf}
 use Rattle.octet.specs.Octets.{Octets, over, putAt}
@@ -63,10 +62,6 @@ SignalsApart =
 -- The octets of an event are as many as it says.
 abbrev pub Whole : List ℕ → Type 0
 Whole e = (headOctets ≤ length e) × (lengthAt e ≡ length (messageOf e)) × (length (messageOf e) ≤ messageOctets)
-
--- the signal of a word
-abbrev pub told : Said → ℕ → Signal
-told o w = signalOf (o .param) (o .num) (o .mps) (o .ups) (o .bsnt) (wordAt w)
 
 -- a signal's octets behind the mark and the link's number
 abbrev pub fromCode : List ℕ → Signal → List ℕ

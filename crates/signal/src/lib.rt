@@ -18,12 +18,13 @@ ghost use Prim.Native.Nat.{_+_, _≤_};
 ghost use lib.ListN.{length, set};
 ghost use Rattle.unit.specs.Unit.{code, unitOf};
 ghost use Rattle.unit.specs.Proving.{table8};
+ghost use Rattle.table6.specs.Stored.{wordAt};
 ghost use Rattle.link.specs.declared.Carries.{Carries};
 ghost use Rattle.link.specs.Signal.{none, signal};
-ghost use Rattle.link.specs.Stored.{signalsOf};
+ghost use Rattle.link.specs.Stored.{meantBy, signalsOf};
 ghost use Rattle.octet.specs.Octets.{putAt};
 ghost use Rattle.event.specs.Frame.{headOctets, messageOctets, linkAt, lengthAt, messageOf};
-ghost use Rattle.signal.specs.SignalRecord.{bodyOf, signalOctets, joined, Put, Whole, told, fromCode, PutCode, fixedWords, fixedAt};
+ghost use Rattle.signal.specs.SignalRecord.{bodyOf, signalOctets, joined, Put, Whole, fromCode, PutCode, fixedWords, fixedAt};
 
 // The mark of a signal.
 pub const SG: [u8; 2] = *b"SG";
@@ -154,8 +155,8 @@ fn offered(mps: Mps, ups: Ups) -> u8
 
 // Writes a signal that carries something from octet 4 on, and answers its length. No step says a word past the last; table6 has it start proving.
 fn put_carrying(out: &mut [u8], w: u8, said: Said, e: &[u8]) -> usize
-    requires { ⌜ (fixedWords ≤ w) × Whole (now e) × (headOctets + length (bodyOf (told said w .carries) (messageOf (now e))) ≤ length (now out)) ⌝ }
-    ensures { λ r. ⌜ PutCode (fromCode (messageOf (now (e .entry))) (told said w)) (now (out .entry)) r (now (out .exit)) ⌝ }
+    requires { ⌜ (fixedWords ≤ w) × Whole (now e) × (headOctets + length (bodyOf (meantBy said (wordAt w) .carries) (messageOf (now e))) ≤ length (now out)) ⌝ }
+    ensures { λ r. ⌜ PutCode (fromCode (messageOf (now (e .entry))) (meantBy said (wordAt w))) (now (out .entry)) r (now (out .exit)) ⌝ }
 {
     let mps = said.mps;
     let ups = said.ups;
@@ -195,8 +196,8 @@ fn put_carrying(out: &mut [u8], w: u8, said: Said, e: &[u8]) -> usize
 
 // Writes one signal over the front of out, and answers its length. The link's number is in the event's octets as in the signal's.
 fn put_signal(out: &mut [u8], w: u8, said: Said, e: &[u8]) -> usize
-    requires { ⌜ Whole (now e) × (headOctets + length (bodyOf (told said w .carries) (messageOf (now e))) ≤ length (now out)) ⌝ }
-    ensures { λ r. ⌜ Put (signalOctets (linkAt (now (e .entry))) (messageOf (now (e .entry))) (told said w)) (now (out .entry)) r (now (out .exit)) ⌝ }
+    requires { ⌜ Whole (now e) × (headOctets + length (bodyOf (meantBy said (wordAt w) .carries) (messageOf (now e))) ≤ length (now out)) ⌝ }
+    ensures { λ r. ⌜ Put (signalOctets (linkAt (now (e .entry))) (messageOf (now (e .entry))) (meantBy said (wordAt w))) (now (out .entry)) r (now (out .exit)) ⌝ }
 {
     let front = [SG[0], SG[1], e[2], e[3]];
     put(out, &front);

@@ -2,3 +2,4 @@ pub mod Every
 pub mod Lists
 pub mod OneAnswer
 pub mod Stored
+pub mod Unfolded

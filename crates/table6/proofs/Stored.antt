@@ -9,12 +9,13 @@ use borrow.Author.Tests.{eqb-true, ltb-true, ltb-false}
 use Rattle.table6.specs.declared.State.{State}
 use Rattle.table6.specs.declared.Facts.{Facts}
 use Rattle.table6.specs.declared.Met.{Met}
-use Rattle.table6.specs.Cell.{Act, Cond, LPO=0, LPO=0&INS=0, LPO=0&INS=1, UU=EM-or-NM, Source=User, BSNT-available, MU>4, holds, Cell, Illegal, to, _⨟_, IF_THEN_ELSE_, Row, cell, Choice, illegal, does, after, chosen}
+use Rattle.table6.specs.Cell.{Cond, LPO=0, LPO=0&INS=0, LPO=0&INS=1, UU=EM-or-NM, Source=User, BSNT-available, MU>4, holds}
+use Rattle.table6.specs.Cell.{Act, tell, alter, Cell, Illegal, to, _⨟_, _⨾_, IF_THEN_ELSE_, Row, cell, Choice, illegal, does, after, chosen}
 use Rattle.table6.specs.Summary.{Summed, refused, sum}
-use Rattle.table6.specs.Table6.{AAL-MESSAGE-FOR-TRANSMISSION-request, AAL-EMERGENCY-request, AAL-EMERGENCY-CEASES-request, AAL-STOP-request, AAL-START-request, AAL-RETRIEVE-BSNT-request, AAL-RETRIEVAL-REQUEST-AND-FSNC-request, AAL-FLUSH-BUFFERS-request, AAL-CONTINUE-request, AA-ESTABLISH-indication-with-EM-NM, AA-ESTABLISH-indication-with-others, AA-ESTABLISH-confirm-with-EM-NM, AA-ESTABLISH-confirm-with-others, AA-RELEASE-indication-from-User, AA-RELEASE-indication-from-SSCOP, AA-RELEASE-confirm, AA-DATA-indication-with-INS, AA-DATA-indication-with-NM, AA-DATA-indication-with-other, AA-DATA-indication-with-MU>4, AA-RESYNC-indication, AA-RECOVER-indication, AA-UNITDATA-indication, AA-RETRIEVE-indication, AA-RETRIEVE-COMPLETE-indication, MAAL-PROVING-UNSUCCESSFUL-response, MAAL-RELEASE-request, MAAL-LOCAL-PROCESSOR-OUTAGE-request, MAAL-LOCAL-PROCESSOR-RECOVERED-request, MAAL-FORCE-PROVING-request, MAAL-FORCE-EMERGENCY-request, MAAL-CLEAR-FORCE-MODES-request, Local-Congestion, Local-Congestion-Ceased, T1-expires, T2-expires, T3-expires-and-C1>0, T3-expires-and-C1=0}
 use Rattle.table6.specs.Rows.{Printed, one, two, printed, rows, nowhere, heading}
 use Rattle.table6.specs.Stored.{place, codes, no-row, rowOf, codeAt, packed, Ask, refuses, gives, asks, follow, askAt, from, meets, met, metAs}
 use Rattle.table6.proofs.Lists.{alike, past}
+use Rattle.table6.proofs.Unfolded.{every-row}
 
 -- Conditions by number, as the ways below have them; 0 always holds.
 abbrev number : Cond → ℕ
@@ -99,7 +100,8 @@ given-way q b (when p w v) f t = given-by (eqb p q) p q b w v _ _ f refl t (give
 abbrev way : List Act → List Act → Cell → Way
 way arrives acts Illegal = only refused
 way arrives acts (to next) = only (sum arrives (does acts next))
-way arrives acts (a ⨟ c) = way arrives (acts ++ a ∷ []) c
+way arrives acts (a ⨟ c) = way arrives (acts ++ tell a ∷ []) c
+way arrives acts (a ⨾ c) = way arrives (acts ++ alter a ∷ []) c
 way arrives acts (IF q THEN c ELSE d) = when (number q) (way arrives acts c) (way arrives acts d)
 
 abbrev behind : List Act → Choice → Choice
@@ -122,7 +124,8 @@ append-nil (a ∷ acts) = ap (λ (l : List Act). a ∷ l) (append-nil acts)
 paper-way : (arrives acts : List Act) (c : Cell) (f : Facts) → taken (way arrives acts c) f ≡ sum arrives (behind acts (chosen f c))
 paper-way arrives acts Illegal f = refl
 paper-way arrives acts (to next) f = ap (λ (l : List Act). sum arrives (does l next)) (append-nil acts)
-paper-way arrives acts (a ⨟ c) f = paper-way arrives (acts ++ a ∷ []) c f ∙ ap (sum arrives) (one-more acts a (chosen f c))
+paper-way arrives acts (a ⨟ c) f = paper-way arrives (acts ++ tell a ∷ []) c f ∙ ap (sum arrives) (one-more acts (tell a) (chosen f c))
+paper-way arrives acts (a ⨾ c) f = paper-way arrives (acts ++ alter a ∷ []) c f ∙ ap (sum arrives) (one-more acts (alter a) (chosen f c))
 paper-way arrives acts (IF q THEN c ELSE d) f =
     rw (numbered q f) (by-holds (holds q f) arrives acts (chosen f c) (chosen f d) _ _ (paper-way arrives acts c f) (paper-way arrives acts d f))
 
@@ -147,7 +150,7 @@ abbrev paperCell : Bool → ℕ → State → Way
 paperCell b row s = way (heading row .arrives) [] (cell (printedIf b (heading row .row)) s)
 
 all-cells : (b : Bool) → from (λ row. eight (storedCell b row)) 0 35 ≡ from (λ row. eight (paperCell b row)) 0 35
-unfolding rowOf codeAt askAt AAL-MESSAGE-FOR-TRANSMISSION-request AAL-EMERGENCY-request AAL-EMERGENCY-CEASES-request AAL-STOP-request AAL-START-request AAL-RETRIEVE-BSNT-request AAL-RETRIEVAL-REQUEST-AND-FSNC-request AAL-FLUSH-BUFFERS-request AAL-CONTINUE-request AA-ESTABLISH-indication-with-EM-NM AA-ESTABLISH-indication-with-others AA-ESTABLISH-confirm-with-EM-NM AA-ESTABLISH-confirm-with-others AA-RELEASE-indication-from-User AA-RELEASE-indication-from-SSCOP AA-RELEASE-confirm AA-DATA-indication-with-INS AA-DATA-indication-with-NM AA-DATA-indication-with-other AA-DATA-indication-with-MU>4 AA-RESYNC-indication AA-RECOVER-indication AA-UNITDATA-indication AA-RETRIEVE-indication AA-RETRIEVE-COMPLETE-indication MAAL-PROVING-UNSUCCESSFUL-response MAAL-RELEASE-request MAAL-LOCAL-PROCESSOR-OUTAGE-request MAAL-LOCAL-PROCESSOR-RECOVERED-request MAAL-FORCE-PROVING-request MAAL-FORCE-EMERGENCY-request MAAL-CLEAR-FORCE-MODES-request Local-Congestion Local-Congestion-Ceased T1-expires T2-expires T3-expires-and-C1>0 T3-expires-and-C1=0
+unfolding rowOf codeAt askAt every-row
 all-cells true = refl
 all-cells false = refl
 

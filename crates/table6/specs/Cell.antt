@@ -8,38 +8,46 @@ use Rattle.table6.specs.Words.{Abbreviation}
 pub data Timer : Type 0 where
   T1 T2 T3 : Timer
 
-pub data Act : Type 0 where
+-- What is told: signals, and the orders that set and reset a timer.
+pub data Told : Type 0 where
   -- to the user
-  AAL-RECEIVED-MESSAGE-indication : Act  -- {Parameter Data := MU}
-  AAL-LINK-CONGESTED-indication : Act  -- {level}
-  AAL-LINK-CONGESTION-CEASED-indication : Act
-  AAL-IN-SERVICE-indication : Act
-  AAL-OUT-OF-SERVICE-indication : Act
-  AAL-RETRIEVED-MESSAGES-indication : Act  -- {Parameter Data := MU}
-  AAL-RETRIEVAL-COMPLETE-indication : Act
-  AAL-BSNT-confirm : Act  -- {Parameter Data := BSNT}
-  AAL-BSNT-NOT-RETRIEVABLE-confirm : Act
+  AAL-RECEIVED-MESSAGE-indication : Told  -- {Parameter Data := MU}
+  AAL-LINK-CONGESTED-indication : Told  -- {level}
+  AAL-LINK-CONGESTION-CEASED-indication : Told
+  AAL-IN-SERVICE-indication : Told
+  AAL-OUT-OF-SERVICE-indication : Told
+  AAL-RETRIEVED-MESSAGES-indication : Told  -- {Parameter Data := MU}
+  AAL-RETRIEVAL-COMPLETE-indication : Told
+  AAL-BSNT-confirm : Told  -- {Parameter Data := BSNT}
+  AAL-BSNT-NOT-RETRIEVABLE-confirm : Told
   -- to SSCOP
-  AA-ESTABLISH-request : Act  -- {SSCOP-UU := NM or EM, BR := No}, by Table 8
-  AA-ESTABLISH-response : Act  -- {SSCOP-UU := NM or EM, BR := No}, by Table 8
-  AA-RELEASE-request : Abbreviation → Act  -- {SSCOP-UU := ..}
-  AA-DATA-request : Abbreviation → Act  -- {MU := ..}
-  AA-RECOVER-response : Act
-  AA-RETRIEVE-request : Act  -- {RN := Parameter Data}
+  AA-ESTABLISH-request : Told  -- {SSCOP-UU := NM or EM, BR := No}, by Table 8
+  AA-ESTABLISH-response : Told  -- {SSCOP-UU := NM or EM, BR := No}, by Table 8
+  AA-RELEASE-request : Abbreviation → Told  -- {SSCOP-UU := ..}
+  AA-DATA-request : Abbreviation → Told  -- {MU := ..}
+  AA-RECOVER-response : Told
+  AA-RETRIEVE-request : Told  -- {RN := Parameter Data}
   -- to layer management
-  MAAL-PROVING-indication : Act
-  MAAL-STOP-PROVING-indication : Act
-  MAAL-REPORT-indication : Abbreviation → Abbreviation → Abbreviation → Act
-  -- flags, counter and timers
-  Set-UPS=NM Set-UPS=EM : Act
-  Set-MPS=N Set-MPS=NM Set-MPS=EM : Act
-  Set-LPO=0 Set-LPO=1 : Act
-  Set-INS-flag Reset-INS-flag : Act
-  Generate-N1 Set-C1=N1 Decrement-C1 : Act
-  Set Reset : Timer → Act
+  MAAL-PROVING-indication : Told
+  MAAL-STOP-PROVING-indication : Told
+  MAAL-REPORT-indication : Abbreviation → Abbreviation → Abbreviation → Told
+  -- to a timer
+  Set Reset : Timer → Told
+
+-- What is only done to the record: its flags and its counter.
+pub data Done : Type 0 where
+  Set-UPS=NM Set-UPS=EM : Done
+  Set-MPS=N Set-MPS=NM Set-MPS=EM : Done
+  Set-LPO=0 Set-LPO=1 : Done
+  Set-INS-flag Reset-INS-flag : Done
+  Generate-N1 Set-C1=N1 Decrement-C1 : Done
   -- not printed: what an event does by itself, by document 01
-  connection-up take-BSNT : Act
-  end : Timer → Act
+  connection-up take-BSNT : Done
+  end : Timer → Done
+
+pub data Act : Type 0 where
+  tell : Told → Act
+  alter : Done → Act
 
 pub data Cond : Type 0 where
   LPO=0 LPO=0&INS=0 LPO=0&INS=1 : Cond
@@ -55,13 +63,15 @@ holds Source=User f = f .user
 holds BSNT-available f = f .bsnt
 holds MU>4 f = f .long
 
--- A cell is Illegal, or its actions in order and then the next state, or one of two by a condition.
-infixr 20 _⨟_
+-- A cell is Illegal, or its actions in order and then the next state, or one of two by a condition. What is told stands before ⨟, what is only done
+-- before ⨾.
+infixr 20 _⨟_ _⨾_
 infix 10 IF_THEN_ELSE_
 pub data Cell : Type 0 where
   Illegal : Cell
   to : State → Cell
-  _⨟_ : Act → Cell → Cell
+  _⨟_ : Told → Cell → Cell
+  _⨾_ : Done → Cell → Cell
   IF_THEN_ELSE_ : Cond → Cell → Cell → Cell
 
 -- The eight cells of a row, in the order of the paper's columns.
@@ -97,5 +107,6 @@ after a (does acts next) = does (a ∷ acts) next
 abbrev pub chosen : Facts → Cell → Choice
 chosen f Illegal = illegal
 chosen f (to next) = does [] next
-chosen f (a ⨟ c) = after a (chosen f c)
+chosen f (a ⨟ c) = after (tell a) (chosen f c)
+chosen f (a ⨾ c) = after (alter a) (chosen f c)
 chosen f (IF q THEN c ELSE d) = cond (holds q f) (chosen f c) (chosen f d)

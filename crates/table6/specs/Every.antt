@@ -9,7 +9,8 @@ use lib.ListN.{length, take, drop}
 use Rattle.table6.specs.declared.State.{State}
 use Rattle.table6.specs.Words.{1/1/1, 1/4/1, 2/1/2, 2/4/2, 2/10/3, 3/10/5, NM, INS}
 use Rattle.table6.specs.Words as words
-use Rattle.table6.specs.Cell.{Act, AAL-RECEIVED-MESSAGE-indication, AAL-LINK-CONGESTED-indication, AAL-LINK-CONGESTION-CEASED-indication, AAL-IN-SERVICE-indication, AAL-OUT-OF-SERVICE-indication, AAL-RETRIEVED-MESSAGES-indication, AAL-RETRIEVAL-COMPLETE-indication, AAL-BSNT-confirm, AAL-BSNT-NOT-RETRIEVABLE-confirm, AA-ESTABLISH-request, AA-ESTABLISH-response, AA-RELEASE-request, AA-DATA-request, AA-RECOVER-response, AA-RETRIEVE-request, MAAL-PROVING-indication, MAAL-STOP-PROVING-indication, MAAL-REPORT-indication, Set-UPS=NM, Set-UPS=EM, Set-MPS=N, Set-MPS=NM, Set-MPS=EM, Set-LPO=0, Set-LPO=1, Set-INS-flag, Reset-INS-flag, Generate-N1, Set-C1=N1, Decrement-C1, Set, Reset, connection-up, take-BSNT, end, Cell, Illegal, to, _⨟_, IF_THEN_ELSE_, Row, cell}
+use Rattle.table6.specs.Cell.{Told, Act, tell, alter, Cell, Illegal, to, _⨟_, _⨾_, IF_THEN_ELSE_, Row, cell}
+use Rattle.table6.specs.SignalCodes.{code, IN-SERVICE, OUT-OF-SERVICE, RELEASE-request, ESTABLISH-response, START-PROVING}
 use Rattle.table6.specs.Order.{signals}
 use Rattle.table6.specs.Stored.{place}
 use Rattle.table6.specs.Table6.{AAL-STOP-request}
@@ -23,7 +24,8 @@ Test = State → List Act → State → Bool
 abbrev pub in-cell : (List Act → State → Bool) → List Act → Cell → Bool
 in-cell t acts Illegal = true
 in-cell t acts (to next) = t acts next
-in-cell t acts (a ⨟ c) = in-cell t (acts ++ a ∷ []) c
+in-cell t acts (a ⨟ c) = in-cell t (acts ++ tell a ∷ []) c
+in-cell t acts (a ⨾ c) = in-cell t (acts ++ alter a ∷ []) c
 in-cell t acts (IF q THEN c ELSE d) = in-cell t acts c && in-cell t acts d
 
 abbrev pub in-states : (State → Bool) → Bool
@@ -51,51 +53,38 @@ stop = plain AAL-STOP-request ∷ []
 abbrev pub but-stop : List Heading
 but-stop = take 3 rows ++ drop 4 rows
 
--- the signals that are asked for; 6: those that carry the event's own message
-abbrev pub kind : Act → ℕ
-kind AAL-RECEIVED-MESSAGE-indication = 6
-kind AAL-LINK-CONGESTED-indication = 0
-kind AAL-LINK-CONGESTION-CEASED-indication = 0
-kind AAL-IN-SERVICE-indication = 1
-kind AAL-OUT-OF-SERVICE-indication = 2
-kind AAL-RETRIEVED-MESSAGES-indication = 6
-kind AAL-RETRIEVAL-COMPLETE-indication = 0
-kind AAL-BSNT-confirm = 0
-kind AAL-BSNT-NOT-RETRIEVABLE-confirm = 0
-kind AA-ESTABLISH-request = 0
-kind AA-ESTABLISH-response = 4
-kind (AA-RELEASE-request uu) = 3
-kind (AA-DATA-request mu) = cond (words.is mu NM) 0 (cond (words.is mu INS) 0 6)
-kind AA-RECOVER-response = 0
-kind AA-RETRIEVE-request = 0
-kind MAAL-PROVING-indication = 5
-kind MAAL-STOP-PROVING-indication = 0
-kind (MAAL-REPORT-indication a b c) = 0
-kind Set-UPS=NM = 0
-kind Set-UPS=EM = 0
-kind Set-MPS=N = 0
-kind Set-MPS=NM = 0
-kind Set-MPS=EM = 0
-kind Set-LPO=0 = 0
-kind Set-LPO=1 = 0
-kind Set-INS-flag = 0
-kind Reset-INS-flag = 0
-kind Generate-N1 = 0
-kind Set-C1=N1 = 0
-kind Decrement-C1 = 0
-kind (Set t) = 0
-kind (Reset t) = 0
-kind connection-up = 0
-kind take-BSNT = 0
-kind (end t) = 0
+-- It carries the event's own message: one that goes to the user, or data that is no unit.
+abbrev pub own-message : Told → Bool
+own-message Told.AAL-RECEIVED-MESSAGE-indication = true
+own-message Told.AAL-LINK-CONGESTED-indication = false
+own-message Told.AAL-LINK-CONGESTION-CEASED-indication = false
+own-message Told.AAL-IN-SERVICE-indication = false
+own-message Told.AAL-OUT-OF-SERVICE-indication = false
+own-message Told.AAL-RETRIEVED-MESSAGES-indication = true
+own-message Told.AAL-RETRIEVAL-COMPLETE-indication = false
+own-message Told.AAL-BSNT-confirm = false
+own-message Told.AAL-BSNT-NOT-RETRIEVABLE-confirm = false
+own-message Told.AA-ESTABLISH-request = false
+own-message Told.AA-ESTABLISH-response = false
+own-message (Told.AA-RELEASE-request uu) = false
+own-message (Told.AA-DATA-request mu) = not (words.is mu NM || words.is mu INS)
+own-message Told.AA-RECOVER-response = false
+own-message Told.AA-RETRIEVE-request = false
+own-message Told.MAAL-PROVING-indication = false
+own-message Told.MAAL-STOP-PROVING-indication = false
+own-message (Told.MAAL-REPORT-indication a b c) = false
+own-message (Told.Set t) = false
+own-message (Told.Reset t) = false
 
+abbrev pub own-messages : List Told → ℕ
+own-messages [] = 0
+own-messages (a ∷ others) = cond (own-message a) 1 0 + own-messages others
+
+-- A signal with this code is said.
 abbrev pub says : ℕ → List Act → Bool
-says k [] = false
-says k (a ∷ acts) = eqb (kind a) k || says k acts
-
-abbrev pub often : ℕ → List Act → ℕ
-often k [] = 0
-often k (a ∷ acts) = cond (eqb (kind a) k) 1 0 + often k acts
+says c [] = false
+says c (tell a ∷ acts) = eqb (code a) c || says c acts
+says c (alter a ∷ acts) = says c acts
 
 abbrev pub same : Bool → Bool → Bool
 same a b = cond a b (not b)
@@ -109,21 +98,21 @@ five s acts next = leb (length (signals acts)) 5
 
 -- AT MOST ONE MESSAGE: no cell says the event's own message twice.
 abbrev pub one-message : Test
-one-message s acts next = leb (often 6 (signals acts)) 1
+one-message s acts next = leb (own-messages (signals acts)) 1
 
 -- IN_SERVICE is said exactly where 3/10/5 is entered.
 abbrev pub in-service : Test
-in-service s acts next = same (says 1 acts) (is next 3/10/5 && not (is s 3/10/5))
+in-service s acts next = same (says IN-SERVICE acts) (is next 3/10/5 && not (is s 3/10/5))
 
 -- OUT_OF_SERVICE is said exactly where the link goes out of service, but for the user's own STOP, which never says it.
 abbrev pub out : State → Bool
 out s = is s 1/1/1 || is s 1/4/1
 
 abbrev pub out-of-service : Test
-out-of-service s acts next = same (says 2 acts) (out next && not (out s))
+out-of-service s acts next = same (says OUT-OF-SERVICE acts) (out next && not (out s))
 
 abbrev pub not-told : Test
-not-told s acts next = not (says 2 acts)
+not-told s acts next = not (says OUT-OF-SERVICE acts)
 
 -- A RELEASE-request is said exactly where SSCOP begins to disconnect; and, where SSCOP is idle, to refuse what a peer wants, the state staying.
 abbrev pub disconnecting : State → Bool
@@ -133,12 +122,12 @@ abbrev pub idle : State → Bool
 idle s = is s 1/1/1 || is s 2/1/2
 
 abbrev pub release : Test
-release s acts next = cond (idle s) (not (says 3 acts) || is s next) (same (says 3 acts) (disconnecting next && not (disconnecting s)))
+release s acts next = cond (idle s) (not (says RELEASE-request acts) || is s next) (same (says RELEASE-request acts) (disconnecting next && not (disconnecting s)))
 
 -- An ESTABLISH-response is said exactly on the way from 2/1/2 to 2/10/3.
 abbrev pub response : Test
-response s acts next = same (says 4 acts) (is s 2/1/2 && is next 2/10/3)
+response s acts next = same (says ESTABLISH-response acts) (is s 2/1/2 && is next 2/10/3)
 
 -- Proving starts exactly where 2/10/3 is entered.
 abbrev pub proving : Test
-proving s acts next = same (says 5 acts) (is next 2/10/3 && not (is s 2/10/3))
+proving s acts next = same (says START-PROVING acts) (is next 2/10/3 && not (is s 2/10/3))

@@ -1,55 +1,37 @@
 -- In which order the signals of a cell go out: as the paper prints them, but timer orders last, resets before sets, T1 first (document 01).
 use Prim.Native.Nat.{ℕ}
-use mathlib.Core.Bool.{cond}
+use mathlib.Core.Bool.{Bool, false, cond, _||_}
 use mathlib.Core.List.{List, [], _∷_, _++_}
 use lib.Dec.{eqb}
-use Rattle.table6.specs.Cell.{T1, T2, T3, Act, AAL-RECEIVED-MESSAGE-indication, AAL-LINK-CONGESTED-indication, AAL-LINK-CONGESTION-CEASED-indication, AAL-IN-SERVICE-indication, AAL-OUT-OF-SERVICE-indication, AAL-RETRIEVED-MESSAGES-indication, AAL-RETRIEVAL-COMPLETE-indication, AAL-BSNT-confirm, AAL-BSNT-NOT-RETRIEVABLE-confirm, AA-ESTABLISH-request, AA-ESTABLISH-response, AA-RELEASE-request, AA-DATA-request, AA-RECOVER-response, AA-RETRIEVE-request, MAAL-PROVING-indication, MAAL-STOP-PROVING-indication, MAAL-REPORT-indication, Set-UPS=NM, Set-UPS=EM, Set-MPS=N, Set-MPS=NM, Set-MPS=EM, Set-LPO=0, Set-LPO=1, Set-INS-flag, Reset-INS-flag, Generate-N1, Set-C1=N1, Decrement-C1, Set, Reset, connection-up, take-BSNT, end}
+use Rattle.table6.specs.Cell.{Told, Act, tell, alter}
+use Rattle.table6.specs.SignalCodes.{code, RESET-T1, RESET-T2, RESET-T3, SET-T1, SET-T2, SET-T3}
 
--- 0: no signal.
-abbrev pub rank : Act → ℕ
-rank AAL-RECEIVED-MESSAGE-indication = 1
-rank AAL-LINK-CONGESTED-indication = 1
-rank AAL-LINK-CONGESTION-CEASED-indication = 1
-rank AAL-IN-SERVICE-indication = 1
-rank AAL-OUT-OF-SERVICE-indication = 1
-rank AAL-RETRIEVED-MESSAGES-indication = 1
-rank AAL-RETRIEVAL-COMPLETE-indication = 1
-rank AAL-BSNT-confirm = 1
-rank AAL-BSNT-NOT-RETRIEVABLE-confirm = 1
-rank AA-ESTABLISH-request = 1
-rank AA-ESTABLISH-response = 1
-rank (AA-RELEASE-request uu) = 1
-rank (AA-DATA-request mu) = 1
-rank AA-RECOVER-response = 1
-rank AA-RETRIEVE-request = 1
-rank MAAL-PROVING-indication = 1
-rank MAAL-STOP-PROVING-indication = 1
-rank (MAAL-REPORT-indication a b c) = 1
-rank Set-UPS=NM = 0
-rank Set-UPS=EM = 0
-rank Set-MPS=N = 0
-rank Set-MPS=NM = 0
-rank Set-MPS=EM = 0
-rank Set-LPO=0 = 0
-rank Set-LPO=1 = 0
-rank Set-INS-flag = 0
-rank Reset-INS-flag = 0
-rank Generate-N1 = 0
-rank Set-C1=N1 = 0
-rank Decrement-C1 = 0
-rank (Set T1) = 5
-rank (Set T2) = 6
-rank (Set T3) = 7
-rank (Reset T1) = 2
-rank (Reset T2) = 3
-rank (Reset T3) = 4
-rank connection-up = 0
-rank take-BSNT = 0
-rank (end t) = 0
+-- What is told, as printed.
+abbrev pub toldIn : List Act → List Told
+toldIn [] = []
+toldIn (tell a ∷ acts) = a ∷ toldIn acts
+toldIn (alter a ∷ acts) = toldIn acts
 
-abbrev pub ranked : ℕ → List Act → List Act
-ranked k [] = []
-ranked k (a ∷ acts) = cond (eqb (rank a) k) (a ∷ ranked k acts) (ranked k acts)
+-- The timer orders, in the order in which they go out.
+abbrev pub orders : List ℕ
+orders = RESET-T1 ∷ RESET-T2 ∷ RESET-T3 ∷ SET-T1 ∷ SET-T2 ∷ SET-T3 ∷ []
 
-abbrev pub signals : List Act → List Act
-signals acts = ranked 1 acts ++ ranked 2 acts ++ ranked 3 acts ++ ranked 4 acts ++ ranked 5 acts ++ ranked 6 acts ++ ranked 7 acts
+abbrev pub among : List ℕ → ℕ → Bool
+among [] c = false
+among (x ∷ codes) c = eqb x c || among codes c
+
+-- Of what is told that which is no timer order; that which has a code; and that which has one of several, code by code.
+abbrev pub but-orders : List Told → List Told
+but-orders [] = []
+but-orders (a ∷ others) = cond (among orders (code a)) (but-orders others) (a ∷ but-orders others)
+
+abbrev pub coded : ℕ → List Told → List Told
+coded c [] = []
+coded c (a ∷ others) = cond (eqb (code a) c) (a ∷ coded c others) (coded c others)
+
+abbrev pub by-codes : List ℕ → List Told → List Told
+by-codes [] all = []
+by-codes (c ∷ codes) all = coded c all ++ by-codes codes all
+
+abbrev pub signals : List Act → List Told
+signals acts = but-orders (toldIn acts) ++ by-codes orders (toldIn acts)

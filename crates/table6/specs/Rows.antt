@@ -5,8 +5,8 @@ use mathlib.Core.Bool.{cond}
 use mathlib.Core.List.{List, [], _∷_}
 use lib.ListN.{getD}
 use Rattle.table6.specs.declared.Facts.{Facts}
-use Rattle.table6.specs.Cell.{T1, T2, T3, Act, connection-up, take-BSNT, end, Cond, UU=EM-or-NM, Source=User, holds, Illegal, Row}
-use Rattle.table6.specs.Table6.{AAL-MESSAGE-FOR-TRANSMISSION-request, AAL-EMERGENCY-request, AAL-EMERGENCY-CEASES-request, AAL-STOP-request, AAL-START-request, AAL-RETRIEVE-BSNT-request, AAL-RETRIEVAL-REQUEST-AND-FSNC-request, AAL-FLUSH-BUFFERS-request, AAL-CONTINUE-request, AA-ESTABLISH-indication-with-EM-NM, AA-ESTABLISH-indication-with-others, AA-ESTABLISH-confirm-with-EM-NM, AA-ESTABLISH-confirm-with-others, AA-RELEASE-indication-from-User, AA-RELEASE-indication-from-SSCOP, AA-RELEASE-confirm, AA-DATA-indication-with-INS, AA-DATA-indication-with-NM, AA-DATA-indication-with-other, AA-DATA-indication-with-MU>4, AA-RESYNC-indication, AA-RECOVER-indication, AA-UNITDATA-indication, AA-RETRIEVE-indication, AA-RETRIEVE-COMPLETE-indication, MAAL-PROVING-UNSUCCESSFUL-response, MAAL-RELEASE-request, MAAL-LOCAL-PROCESSOR-OUTAGE-request, MAAL-LOCAL-PROCESSOR-RECOVERED-request, MAAL-FORCE-PROVING-request, MAAL-FORCE-EMERGENCY-request, MAAL-CLEAR-FORCE-MODES-request, Local-Congestion, Local-Congestion-Ceased, T1-expires, T2-expires, T3-expires-and-C1>0, T3-expires-and-C1=0}
+use Rattle.table6.specs.Cell.{T1, T2, T3, Done, connection-up, take-BSNT, end, Act, alter, Cond, UU=EM-or-NM, Source=User, holds, Illegal, Row}
+use Rattle.table6.specs.Table6 as paper
 
 pub data Printed : Type 0 where
   one : Row → Printed
@@ -23,56 +23,56 @@ pub record Heading : Type 0 where
 abbrev pub plain : Row → Heading
 plain r = record { arrives = []; row = one r }
 
-abbrev pub behind : Act → Row → Heading
-behind a r = record { arrives = a ∷ []; row = one r }
+abbrev pub behind : Done → Row → Heading
+behind a r = record { arrives = alter a ∷ []; row = one r }
 
 abbrev pub AA-ESTABLISH-indication : Heading
-AA-ESTABLISH-indication = record { arrives = []; row = two UU=EM-or-NM AA-ESTABLISH-indication-with-EM-NM AA-ESTABLISH-indication-with-others }
+AA-ESTABLISH-indication = record { arrives = []; row = two UU=EM-or-NM paper.AA-ESTABLISH-indication-with-EM-NM paper.AA-ESTABLISH-indication-with-others }
 
 abbrev pub AA-ESTABLISH-confirm : Heading
-AA-ESTABLISH-confirm = record { arrives = connection-up ∷ []; row = two UU=EM-or-NM AA-ESTABLISH-confirm-with-EM-NM AA-ESTABLISH-confirm-with-others }
+AA-ESTABLISH-confirm = record { arrives = alter connection-up ∷ []; row = two UU=EM-or-NM paper.AA-ESTABLISH-confirm-with-EM-NM paper.AA-ESTABLISH-confirm-with-others }
 
 abbrev pub AA-RELEASE-indication : Heading
-AA-RELEASE-indication = record { arrives = []; row = two Source=User AA-RELEASE-indication-from-User AA-RELEASE-indication-from-SSCOP }
+AA-RELEASE-indication = record { arrives = []; row = two Source=User paper.AA-RELEASE-indication-from-User paper.AA-RELEASE-indication-from-SSCOP }
 
 -- In the order of document 01's event codes.
 abbrev pub rows : List Heading
 rows =
-    plain AAL-MESSAGE-FOR-TRANSMISSION-request
-    ∷ plain AAL-EMERGENCY-request
-    ∷ plain AAL-EMERGENCY-CEASES-request
-    ∷ plain AAL-STOP-request
-    ∷ plain AAL-START-request
-    ∷ plain AAL-RETRIEVE-BSNT-request
-    ∷ plain AAL-RETRIEVAL-REQUEST-AND-FSNC-request
-    ∷ plain AAL-FLUSH-BUFFERS-request
-    ∷ plain AAL-CONTINUE-request
+    plain paper.AAL-MESSAGE-FOR-TRANSMISSION-request
+    ∷ plain paper.AAL-EMERGENCY-request
+    ∷ plain paper.AAL-EMERGENCY-CEASES-request
+    ∷ plain paper.AAL-STOP-request
+    ∷ plain paper.AAL-START-request
+    ∷ plain paper.AAL-RETRIEVE-BSNT-request
+    ∷ plain paper.AAL-RETRIEVAL-REQUEST-AND-FSNC-request
+    ∷ plain paper.AAL-FLUSH-BUFFERS-request
+    ∷ plain paper.AAL-CONTINUE-request
     ∷ AA-ESTABLISH-indication
     ∷ AA-ESTABLISH-confirm
     ∷ AA-RELEASE-indication
-    ∷ plain AA-RELEASE-confirm
-    ∷ behind take-BSNT AA-DATA-indication-with-INS
-    ∷ behind take-BSNT AA-DATA-indication-with-NM
-    ∷ behind take-BSNT AA-DATA-indication-with-other
-    ∷ behind take-BSNT AA-DATA-indication-with-MU>4
-    ∷ plain AA-RESYNC-indication
-    ∷ plain AA-RECOVER-indication
-    ∷ plain AA-UNITDATA-indication
-    ∷ plain AA-RETRIEVE-indication
-    ∷ plain AA-RETRIEVE-COMPLETE-indication
-    ∷ plain MAAL-PROVING-UNSUCCESSFUL-response
-    ∷ plain MAAL-RELEASE-request
-    ∷ plain MAAL-LOCAL-PROCESSOR-OUTAGE-request
-    ∷ plain MAAL-LOCAL-PROCESSOR-RECOVERED-request
-    ∷ plain MAAL-FORCE-PROVING-request
-    ∷ plain MAAL-FORCE-EMERGENCY-request
-    ∷ plain MAAL-CLEAR-FORCE-MODES-request
-    ∷ plain Local-Congestion
-    ∷ plain Local-Congestion-Ceased
-    ∷ behind (end T1) T1-expires
-    ∷ behind (end T2) T2-expires
-    ∷ behind (end T3) T3-expires-and-C1>0
-    ∷ behind (end T3) T3-expires-and-C1=0
+    ∷ plain paper.AA-RELEASE-confirm
+    ∷ behind take-BSNT paper.AA-DATA-indication-with-INS
+    ∷ behind take-BSNT paper.AA-DATA-indication-with-NM
+    ∷ behind take-BSNT paper.AA-DATA-indication-with-other
+    ∷ behind take-BSNT paper.AA-DATA-indication-with-MU>4
+    ∷ plain paper.AA-RESYNC-indication
+    ∷ plain paper.AA-RECOVER-indication
+    ∷ plain paper.AA-UNITDATA-indication
+    ∷ plain paper.AA-RETRIEVE-indication
+    ∷ plain paper.AA-RETRIEVE-COMPLETE-indication
+    ∷ plain paper.MAAL-PROVING-UNSUCCESSFUL-response
+    ∷ plain paper.MAAL-RELEASE-request
+    ∷ plain paper.MAAL-LOCAL-PROCESSOR-OUTAGE-request
+    ∷ plain paper.MAAL-LOCAL-PROCESSOR-RECOVERED-request
+    ∷ plain paper.MAAL-FORCE-PROVING-request
+    ∷ plain paper.MAAL-FORCE-EMERGENCY-request
+    ∷ plain paper.MAAL-CLEAR-FORCE-MODES-request
+    ∷ plain paper.Local-Congestion
+    ∷ plain paper.Local-Congestion-Ceased
+    ∷ behind (end T1) paper.T1-expires
+    ∷ behind (end T2) paper.T2-expires
+    ∷ behind (end T3) paper.T3-expires-and-C1>0
+    ∷ behind (end T3) paper.T3-expires-and-C1=0
     ∷ []
 
 abbrev pub nowhere : Heading

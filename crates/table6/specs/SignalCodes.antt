@@ -1,5 +1,6 @@
--- Document 01's codes of the signals.
+-- Document 01's codes of the signals, and which of them each has that Table 6 tells.
 use Prim.Native.Nat.{ℕ}
+use Rattle.table6.specs.Cell.{T1, T2, T3, Told}
 
 -- to the user
 abbrev pub RECEIVED-MESSAGE : ℕ
@@ -76,3 +77,29 @@ RESET-T2 = 57
 
 abbrev pub RESET-T3 : ℕ
 RESET-T3 = 58
+
+abbrev pub code : Told → ℕ
+code Told.AAL-RECEIVED-MESSAGE-indication = RECEIVED-MESSAGE
+code Told.AAL-LINK-CONGESTED-indication = LINK-CONGESTED
+code Told.AAL-LINK-CONGESTION-CEASED-indication = CONGESTION-CEASED
+code Told.AAL-IN-SERVICE-indication = IN-SERVICE
+code Told.AAL-OUT-OF-SERVICE-indication = OUT-OF-SERVICE
+code Told.AAL-RETRIEVED-MESSAGES-indication = RETRIEVED-MESSAGES
+code Told.AAL-RETRIEVAL-COMPLETE-indication = RETRIEVAL-COMPLETE
+code Told.AAL-BSNT-confirm = BSNT
+code Told.AAL-BSNT-NOT-RETRIEVABLE-confirm = BSNT-NOT-RETRIEVABLE
+code Told.AA-ESTABLISH-request = ESTABLISH-request
+code Told.AA-ESTABLISH-response = ESTABLISH-response
+code (Told.AA-RELEASE-request uu) = RELEASE-request
+code (Told.AA-DATA-request mu) = DATA-request
+code Told.AA-RECOVER-response = RECOVER-response
+code Told.AA-RETRIEVE-request = RETRIEVE-request
+code Told.MAAL-PROVING-indication = START-PROVING
+code Told.MAAL-STOP-PROVING-indication = STOP-PROVING
+code (Told.MAAL-REPORT-indication a b c) = REPORT
+code (Told.Set T1) = SET-T1
+code (Told.Set T2) = SET-T2
+code (Told.Set T3) = SET-T3
+code (Told.Reset T1) = RESET-T1
+code (Told.Reset T2) = RESET-T2
+code (Told.Reset T3) = RESET-T3

@@ -12,7 +12,7 @@ use Rattle.table6.specs.declared.Facts.{Facts}
 use Rattle.table6.specs.declared.Met.{Met}
 use Rattle.table6.specs.declared.effects.Change.{Change}
 use Rattle.table6.specs.Words.{–, OOS, PO, INS, NM, ANS, MI, PE, PNS, LR, RR, SR, ALN, CC, CD, SREC, UDR, PDUT, SSCOP-UU, Parameter-Data}
-use Rattle.table6.specs.Cell.{T1, T2, T3, Act, AAL-RECEIVED-MESSAGE-indication, AAL-LINK-CONGESTED-indication, AAL-LINK-CONGESTION-CEASED-indication, AAL-IN-SERVICE-indication, AAL-OUT-OF-SERVICE-indication, AAL-RETRIEVED-MESSAGES-indication, AAL-RETRIEVAL-COMPLETE-indication, AAL-BSNT-confirm, AAL-BSNT-NOT-RETRIEVABLE-confirm, AA-ESTABLISH-request, AA-ESTABLISH-response, AA-RELEASE-request, AA-DATA-request, AA-RECOVER-response, AA-RETRIEVE-request, MAAL-PROVING-indication, MAAL-STOP-PROVING-indication, MAAL-REPORT-indication, Set, Reset, Cond, LPO=0, LPO=0&INS=0, LPO=0&INS=1, UU=EM-or-NM, Source=User, BSNT-available, MU>4, holds, cell, chosen}
+use Rattle.table6.specs.Cell.{T1, T2, T3, Told, Cond, LPO=0, LPO=0&INS=0, LPO=0&INS=1, UU=EM-or-NM, Source=User, BSNT-available, MU>4, holds, cell, chosen}
 use Rattle.table6.specs.Rows.{printed, Heading, heading}
 use Rattle.table6.specs.Summary.{Op, keep, put, over, Count, same, decided, less, Summary, Summed, refused, summed, sum}
 
@@ -110,59 +110,59 @@ changed c =
 
 -- SIGNALS
 
-abbrev pub words : List Act
+abbrev pub words : List Told
 words =
-    AAL-LINK-CONGESTION-CEASED-indication
-    ∷ AAL-IN-SERVICE-indication
-    ∷ AAL-OUT-OF-SERVICE-indication
-    ∷ AAL-RETRIEVAL-COMPLETE-indication
-    ∷ AAL-BSNT-NOT-RETRIEVABLE-confirm
-    ∷ AA-RELEASE-request OOS
-    ∷ AA-RELEASE-request PO
-    ∷ AA-RELEASE-request ANS
-    ∷ AA-RELEASE-request MI
-    ∷ AA-RELEASE-request PE
-    ∷ AA-RELEASE-request PNS
-    ∷ AA-RECOVER-response
-    ∷ MAAL-PROVING-indication
-    ∷ MAAL-STOP-PROVING-indication
-    ∷ MAAL-REPORT-indication – – CC
-    ∷ MAAL-REPORT-indication – – CD
-    ∷ MAAL-REPORT-indication – – SREC
-    ∷ MAAL-REPORT-indication – – UDR
-    ∷ MAAL-REPORT-indication – – PDUT
-    ∷ MAAL-REPORT-indication – OOS –
-    ∷ MAAL-REPORT-indication – OOS ANS
-    ∷ MAAL-REPORT-indication – INS –
-    ∷ MAAL-REPORT-indication – ALN –
-    ∷ MAAL-REPORT-indication LR – CD
-    ∷ MAAL-REPORT-indication LR – PE
-    ∷ MAAL-REPORT-indication LR OOS –
-    ∷ MAAL-REPORT-indication LR OOS ANS
-    ∷ MAAL-REPORT-indication LR OOS PE
-    ∷ MAAL-REPORT-indication SR – –
-    ∷ MAAL-REPORT-indication SR OOS –
-    ∷ Reset T1
-    ∷ Reset T2
-    ∷ Reset T3
-    ∷ Set T1
-    ∷ Set T2
-    ∷ Set T3
-    ∷ AAL-LINK-CONGESTED-indication
-    ∷ AAL-BSNT-confirm
-    ∷ AA-ESTABLISH-request
-    ∷ AA-ESTABLISH-response
-    ∷ AA-RETRIEVE-request
-    ∷ MAAL-REPORT-indication RR – SSCOP-UU
-    ∷ AAL-RECEIVED-MESSAGE-indication
-    ∷ AAL-RETRIEVED-MESSAGES-indication
-    ∷ AA-DATA-request Parameter-Data
-    ∷ AA-DATA-request NM
-    ∷ AA-DATA-request INS
+    Told.AAL-LINK-CONGESTION-CEASED-indication
+    ∷ Told.AAL-IN-SERVICE-indication
+    ∷ Told.AAL-OUT-OF-SERVICE-indication
+    ∷ Told.AAL-RETRIEVAL-COMPLETE-indication
+    ∷ Told.AAL-BSNT-NOT-RETRIEVABLE-confirm
+    ∷ Told.AA-RELEASE-request OOS
+    ∷ Told.AA-RELEASE-request PO
+    ∷ Told.AA-RELEASE-request ANS
+    ∷ Told.AA-RELEASE-request MI
+    ∷ Told.AA-RELEASE-request PE
+    ∷ Told.AA-RELEASE-request PNS
+    ∷ Told.AA-RECOVER-response
+    ∷ Told.MAAL-PROVING-indication
+    ∷ Told.MAAL-STOP-PROVING-indication
+    ∷ Told.MAAL-REPORT-indication – – CC
+    ∷ Told.MAAL-REPORT-indication – – CD
+    ∷ Told.MAAL-REPORT-indication – – SREC
+    ∷ Told.MAAL-REPORT-indication – – UDR
+    ∷ Told.MAAL-REPORT-indication – – PDUT
+    ∷ Told.MAAL-REPORT-indication – OOS –
+    ∷ Told.MAAL-REPORT-indication – OOS ANS
+    ∷ Told.MAAL-REPORT-indication – INS –
+    ∷ Told.MAAL-REPORT-indication – ALN –
+    ∷ Told.MAAL-REPORT-indication LR – CD
+    ∷ Told.MAAL-REPORT-indication LR – PE
+    ∷ Told.MAAL-REPORT-indication LR OOS –
+    ∷ Told.MAAL-REPORT-indication LR OOS ANS
+    ∷ Told.MAAL-REPORT-indication LR OOS PE
+    ∷ Told.MAAL-REPORT-indication SR – –
+    ∷ Told.MAAL-REPORT-indication SR OOS –
+    ∷ Told.Reset T1
+    ∷ Told.Reset T2
+    ∷ Told.Reset T3
+    ∷ Told.Set T1
+    ∷ Told.Set T2
+    ∷ Told.Set T3
+    ∷ Told.AAL-LINK-CONGESTED-indication
+    ∷ Told.AAL-BSNT-confirm
+    ∷ Told.AA-ESTABLISH-request
+    ∷ Told.AA-ESTABLISH-response
+    ∷ Told.AA-RETRIEVE-request
+    ∷ Told.MAAL-REPORT-indication RR – SSCOP-UU
+    ∷ Told.AAL-RECEIVED-MESSAGE-indication
+    ∷ Told.AAL-RETRIEVED-MESSAGES-indication
+    ∷ Told.AA-DATA-request Parameter-Data
+    ∷ Told.AA-DATA-request NM
+    ∷ Told.AA-DATA-request INS
     ∷ []
 
-abbrev pub wordAt : ℕ → Act
-wordAt w = getD words w MAAL-PROVING-indication
+abbrev pub wordAt : ℕ → Told
+wordAt w = getD words w Told.MAAL-PROVING-indication
 
 -- the number of some words: how many, and each, by octets from the lowest
 abbrev pub octets : List ℕ → ℕ
@@ -181,7 +181,7 @@ from f i (suc n) = f i ∷ from f (suc i) n
 abbrev pub octet : ℕ → ℕ → ℕ
 octet w k = w / 2 ^ (k * 8 + 8) % 256
 
-abbrev pub said : ℕ → List Act
+abbrev pub said : ℕ → List Told
 said w = map wordAt (from (octet w) 0 (w % 8))
 
 -- CODES
@@ -199,69 +199,69 @@ follow f (asks q y n) = cond (holds q f) (follow f y) (follow f n)
 
 abbrev pub effects : List Ask
 effects =
-    gives none (44 ∷ 18 ∷ [])  -- MESSAGE
-    ∷ gives (K, K, K, K, 1, K, K, K, K, K) []  -- EMERGENCY
-    ∷ gives (K, K, K, K, 0, K, K, K, K, K) []  -- EMERGENCY_CEASES
-    ∷ gives (0, K, K, K, 0, 0, 0, K, K, K) (19 ∷ 30 ∷ 31 ∷ [])  -- STOP_212
-    ∷ gives (1, K, K, K, 0, K, 0, K, K, K) (5 ∷ 19 ∷ 31 ∷ [])  -- STOP_222
-    ∷ gives (1, K, K, K, 0, K, 0, K, K, K) (19 ∷ 31 ∷ [])  -- STOP_242
-    ∷ gives (1, K, K, K, 0, K, 0, 0, K, K) (5 ∷ 25 ∷ 13 ∷ 31 ∷ 32 ∷ [])  -- STOP_2103
-    ∷ gives (1, K, K, K, 0, K, 0, K, K, K) (5 ∷ 25 ∷ 31 ∷ [])  -- STOP_2104
-    ∷ gives (1, K, K, K, 0, K, K, K, K, K) (5 ∷ 25 ∷ [])  -- STOP_3105
+    gives none (44 ∷ 18 ∷ [])  -- MESSG
+    ∷ gives (K, K, K, K, 1, K, K, K, K, K) []  -- EMERG
+    ∷ gives (K, K, K, K, 0, K, K, K, K, K) []  -- EMOFF
+    ∷ gives (0, K, K, K, 0, 0, 0, K, K, K) (19 ∷ 30 ∷ 31 ∷ [])  -- STOP3
+    ∷ gives (1, K, K, K, 0, K, 0, K, K, K) (5 ∷ 19 ∷ 31 ∷ [])  -- STOP4
+    ∷ gives (1, K, K, K, 0, K, 0, K, K, K) (19 ∷ 31 ∷ [])  -- STOP5
+    ∷ gives (1, K, K, K, 0, K, 0, 0, K, K) (5 ∷ 25 ∷ 13 ∷ 31 ∷ 32 ∷ [])  -- STOP6
+    ∷ gives (1, K, K, K, 0, K, 0, K, K, K) (5 ∷ 25 ∷ 31 ∷ [])  -- STOP7
+    ∷ gives (1, K, K, K, 0, K, K, K, K, K) (5 ∷ 25 ∷ [])  -- STOP8
     ∷ gives (3, K, K, K, K, K, 1, K, K, K) (38 ∷ 22 ∷ 34 ∷ [])  -- START
-    ∷ asks BSNT-available (gives none (37 ∷ [])) (gives none (4 ∷ []))  -- RETRIEVE_BSNT
-    ∷ gives none (40 ∷ [])  -- RETRIEVAL
-    ∷ gives none []  -- IGNORED
-    ∷ asks LPO=0 (gives none (5 ∷ [])) (gives none (6 ∷ []))  -- ESTABLISH_111
-    ∷ asks UU=EM-or-NM (gives (5, 0, K, K, K, 0, K, 1, 0, K) (39 ∷ 12 ∷ 30 ∷ 35 ∷ [])) (gives none (9 ∷ 24 ∷ []))  -- ESTABLISH_212
-    ∷ asks UU=EM-or-NM (gives (5, 0, K, K, K, K, K, 1, 0, K) (12 ∷ 35 ∷ [])) (gives (4, 0, K, K, K, K, K, K, 0, K) (9 ∷ 24 ∷ []))  -- CONFIRM_222
-    ∷ asks Source=User (gives (2, K, K, K, K, 1, K, K, K, K) (41 ∷ 33 ∷ [])) (gives (2, K, K, K, K, 1, K, K, K, K) (28 ∷ 33 ∷ []))  -- RELEASED_BY
+    ∷ asks BSNT-available (gives none (37 ∷ [])) (gives none (4 ∷ []))  -- BSNT_
+    ∷ gives none (40 ∷ [])  -- FSNC_
+    ∷ gives none []  -- IGNOR
+    ∷ asks LPO=0 (gives none (5 ∷ [])) (gives none (6 ∷ []))  -- EIND1
+    ∷ asks UU=EM-or-NM (gives (5, 0, K, K, K, 0, K, 1, 0, K) (39 ∷ 12 ∷ 30 ∷ 35 ∷ [])) (gives none (9 ∷ 24 ∷ []))  -- EIND3
+    ∷ asks UU=EM-or-NM (gives (5, 0, K, K, K, K, K, 1, 0, K) (12 ∷ 35 ∷ [])) (gives (4, 0, K, K, K, K, K, K, 0, K) (9 ∷ 24 ∷ []))  -- ECNF4
+    ∷ asks Source=User (gives (2, K, K, K, K, 1, K, K, K, K) (41 ∷ 33 ∷ [])) (gives (2, K, K, K, K, 1, K, K, K, K) (28 ∷ 33 ∷ []))  -- RIND_
     ∷ asks Source=User (gives (2, K, K, K, K, 1, K, 0, K, K) (41 ∷ 13 ∷ 32 ∷ 33 ∷ []))
-    (gives (2, K, K, K, K, 1, K, 0, K, K) (28 ∷ 13 ∷ 32 ∷ 33 ∷ []))  -- RELEASED_BY_2103
-    ∷ asks Source=User (gives (0, K, K, K, 0, K, K, K, K, K) (2 ∷ 41 ∷ [])) (gives (0, K, K, K, 0, K, K, K, K, K) (2 ∷ 29 ∷ []))  -- RELEASED_BY_3105
-    ∷ gives (0, K, K, K, K, K, K, K, K, K) []  -- RELEASE_CONFIRMED_141
-    ∷ gives (2, K, K, K, K, 1, K, K, K, K) (33 ∷ [])  -- RELEASE_CONFIRMED_242
-    ∷ gives (K, 1, K, K, K, K, K, K, K, 1) []  -- INS_2103
-    ∷ gives (7, K, K, K, K, K, 0, K, K, 1) (1 ∷ 21 ∷ 31 ∷ [])  -- INS_2104
-    ∷ gives (1, K, K, K, 0, K, K, K, K, 1) (9 ∷ 2 ∷ 27 ∷ [])  -- UNIT_3105
-    ∷ gives (K, K, K, K, K, K, K, K, K, 1) []  -- UNIT_TAKEN
-    ∷ gives (4, K, K, K, K, K, K, 0, K, 1) (24 ∷ 9 ∷ 13 ∷ 32 ∷ [])  -- LONG_2103
-    ∷ gives (4, K, K, K, K, K, K, K, K, 1) (9 ∷ 24 ∷ [])  -- LONG_2104
-    ∷ gives (K, K, K, K, K, K, K, K, K, 1) (42 ∷ [])  -- LONG_3105
-    ∷ gives (4, K, K, K, K, K, K, 0, K, K) (24 ∷ 9 ∷ 13 ∷ 32 ∷ [])  -- RESYNC_2103
-    ∷ gives (4, K, K, K, K, K, K, K, K, K) (24 ∷ 9 ∷ [])  -- RESYNC_2104
-    ∷ gives (1, K, K, K, 0, K, K, K, K, K) (9 ∷ 2 ∷ 27 ∷ [])  -- RESYNC_3105
-    ∷ gives none (11 ∷ 16 ∷ [])  -- RECOVER
-    ∷ gives none (17 ∷ [])  -- UNITDATA
-    ∷ asks MU>4 (gives none (43 ∷ [])) (gives none [])  -- RETRIEVE
-    ∷ gives none (3 ∷ [])  -- RETRIEVE_COMPLETE
-    ∷ gives (4, K, K, K, K, K, K, 0, K, K) (10 ∷ 32 ∷ [])  -- PROVING_UNSUCCESSFUL
-    ∷ gives (0, K, K, K, 0, 0, 0, K, K, K) (2 ∷ 30 ∷ 31 ∷ [])  -- RELEASE_212
-    ∷ gives (1, K, K, K, 0, K, 0, K, K, K) (8 ∷ 2 ∷ 31 ∷ [])  -- RELEASE_222
-    ∷ gives (1, K, K, K, 0, K, 0, K, K, K) (2 ∷ 31 ∷ [])  -- RELEASE_242
-    ∷ gives (1, K, K, K, 0, K, 0, 0, K, K) (8 ∷ 2 ∷ 31 ∷ 32 ∷ [])  -- RELEASE_2103
-    ∷ gives (1, K, K, K, 0, K, K, K, K, K) (8 ∷ 2 ∷ [])  -- RELEASE_3105
-    ∷ gives (K, K, 1, K, K, K, K, K, K, K) []  -- OUTAGE
-    ∷ gives (1, K, 1, K, 0, K, 0, K, K, K) (6 ∷ 2 ∷ 31 ∷ [])  -- OUTAGE_2104
-    ∷ gives (1, K, 1, K, 0, K, K, K, K, K) (6 ∷ 2 ∷ [])  -- OUTAGE_3105
-    ∷ gives (K, K, 0, K, K, K, K, K, K, K) []  -- RECOVERED
-    ∷ gives (K, K, K, 1, K, K, K, K, K, K) []  -- FORCE_PROVING
-    ∷ gives (K, K, K, 2, K, K, K, K, K, K) []  -- FORCE_EMERGENCY
-    ∷ gives (K, K, K, 0, K, K, K, K, K, K) []  -- CLEAR_FORCE_MODES
-    ∷ gives (4, K, K, K, K, K, K, 0, K, K) (10 ∷ 23 ∷ 13 ∷ 32 ∷ [])  -- CONGESTION_2103
-    ∷ gives none (36 ∷ 15 ∷ [])  -- CONGESTION
-    ∷ gives none (14 ∷ [])  -- CEASED_242
-    ∷ gives none (0 ∷ 14 ∷ [])  -- CEASED
-    ∷ gives (3, K, K, K, K, 0, K, K, K, K) (38 ∷ [])  -- T1_212
-    ∷ gives (0, K, K, K, 0, 0, 0, K, K, K) (2 ∷ 26 ∷ 30 ∷ [])  -- T2_212
-    ∷ gives (1, K, K, K, 0, K, 0, K, K, K) (7 ∷ 2 ∷ 26 ∷ [])  -- T2_222
-    ∷ gives (1, K, K, K, 0, K, 0, K, K, K) (2 ∷ 20 ∷ [])  -- T2_242
-    ∷ gives (1, K, K, K, 0, K, 0, 0, K, K) (26 ∷ 13 ∷ 2 ∷ 7 ∷ 32 ∷ [])  -- T2_2103
-    ∷ gives (1, K, K, K, 0, K, 0, K, K, K) (26 ∷ 2 ∷ 7 ∷ [])  -- T2_2104
-    ∷ gives (K, K, K, K, K, K, K, 1, 1, K) (45 ∷ 35 ∷ [])  -- T3_PROVING
+    (gives (2, K, K, K, K, 1, K, 0, K, K) (28 ∷ 13 ∷ 32 ∷ 33 ∷ []))  -- RIND6
+    ∷ asks Source=User (gives (0, K, K, K, 0, K, K, K, K, K) (2 ∷ 41 ∷ [])) (gives (0, K, K, K, 0, K, K, K, K, K) (2 ∷ 29 ∷ []))  -- RIND8
+    ∷ gives (0, K, K, K, K, K, K, K, K, K) []  -- RCNF2
+    ∷ gives (2, K, K, K, K, 1, K, K, K, K) (33 ∷ [])  -- RCNF5
+    ∷ gives (K, 1, K, K, K, K, K, K, K, 1) []  -- INS_6
+    ∷ gives (7, K, K, K, K, K, 0, K, K, 1) (1 ∷ 21 ∷ 31 ∷ [])  -- INS_7
+    ∷ gives (1, K, K, K, 0, K, K, K, K, 1) (9 ∷ 2 ∷ 27 ∷ [])  -- UNIT8
+    ∷ gives (K, K, K, K, K, K, K, K, K, 1) []  -- UNIT_
+    ∷ gives (4, K, K, K, K, K, K, 0, K, 1) (24 ∷ 9 ∷ 13 ∷ 32 ∷ [])  -- LONG6
+    ∷ gives (4, K, K, K, K, K, K, K, K, 1) (9 ∷ 24 ∷ [])  -- LONG7
+    ∷ gives (K, K, K, K, K, K, K, K, K, 1) (42 ∷ [])  -- LONG8
+    ∷ gives (4, K, K, K, K, K, K, 0, K, K) (24 ∷ 9 ∷ 13 ∷ 32 ∷ [])  -- RSYN6
+    ∷ gives (4, K, K, K, K, K, K, K, K, K) (24 ∷ 9 ∷ [])  -- RSYN7
+    ∷ gives (1, K, K, K, 0, K, K, K, K, K) (9 ∷ 2 ∷ 27 ∷ [])  -- RSYN8
+    ∷ gives none (11 ∷ 16 ∷ [])  -- RECOV
+    ∷ gives none (17 ∷ [])  -- UDATA
+    ∷ asks MU>4 (gives none (43 ∷ [])) (gives none [])  -- RETRV
+    ∷ gives none (3 ∷ [])  -- RCOMP
+    ∷ gives (4, K, K, K, K, K, K, 0, K, K) (10 ∷ 32 ∷ [])  -- PFAIL
+    ∷ gives (0, K, K, K, 0, 0, 0, K, K, K) (2 ∷ 30 ∷ 31 ∷ [])  -- MREL3
+    ∷ gives (1, K, K, K, 0, K, 0, K, K, K) (8 ∷ 2 ∷ 31 ∷ [])  -- MREL4
+    ∷ gives (1, K, K, K, 0, K, 0, K, K, K) (2 ∷ 31 ∷ [])  -- MREL5
+    ∷ gives (1, K, K, K, 0, K, 0, 0, K, K) (8 ∷ 2 ∷ 31 ∷ 32 ∷ [])  -- MREL6
+    ∷ gives (1, K, K, K, 0, K, K, K, K, K) (8 ∷ 2 ∷ [])  -- MREL8
+    ∷ gives (K, K, 1, K, K, K, K, K, K, K) []  -- OUTG_
+    ∷ gives (1, K, 1, K, 0, K, 0, K, K, K) (6 ∷ 2 ∷ 31 ∷ [])  -- OUTG7
+    ∷ gives (1, K, 1, K, 0, K, K, K, K, K) (6 ∷ 2 ∷ [])  -- OUTG8
+    ∷ gives (K, K, 0, K, K, K, K, K, K, K) []  -- RCVRD
+    ∷ gives (K, K, K, 1, K, K, K, K, K, K) []  -- FPROV
+    ∷ gives (K, K, K, 2, K, K, K, K, K, K) []  -- FEMER
+    ∷ gives (K, K, K, 0, K, K, K, K, K, K) []  -- FCLR_
+    ∷ gives (4, K, K, K, K, K, K, 0, K, K) (10 ∷ 23 ∷ 13 ∷ 32 ∷ [])  -- CONG6
+    ∷ gives none (36 ∷ 15 ∷ [])  -- CONG_
+    ∷ gives none (14 ∷ [])  -- CEAS5
+    ∷ gives none (0 ∷ 14 ∷ [])  -- CEAS_
+    ∷ gives (3, K, K, K, K, 0, K, K, K, K) (38 ∷ [])  -- T1EX3
+    ∷ gives (0, K, K, K, 0, 0, 0, K, K, K) (2 ∷ 26 ∷ 30 ∷ [])  -- T2EX3
+    ∷ gives (1, K, K, K, 0, K, 0, K, K, K) (7 ∷ 2 ∷ 26 ∷ [])  -- T2EX4
+    ∷ gives (1, K, K, K, 0, K, 0, K, K, K) (2 ∷ 20 ∷ [])  -- T2EX5
+    ∷ gives (1, K, K, K, 0, K, 0, 0, K, K) (26 ∷ 13 ∷ 2 ∷ 7 ∷ 32 ∷ [])  -- T2EX6
+    ∷ gives (1, K, K, K, 0, K, 0, K, K, K) (26 ∷ 2 ∷ 7 ∷ [])  -- T2EX7
+    ∷ gives (K, K, K, K, K, K, K, 1, 1, K) (45 ∷ 35 ∷ [])  -- T3PRV
     ∷ asks LPO=0&INS=0 (gives (6, K, K, K, K, K, K, 0, K, K) (13 ∷ 46 ∷ []))
     (asks LPO=0&INS=1 (gives (7, K, K, K, K, K, 0, 0, K, K) (13 ∷ 46 ∷ 21 ∷ 1 ∷ 31 ∷ []))
-    (gives (1, K, K, K, 0, K, 0, 0, K, K) (6 ∷ 2 ∷ 25 ∷ 13 ∷ 31 ∷ [])))  -- T3_DONE
+    (gives (1, K, K, K, 0, K, 0, 0, K, K) (6 ∷ 2 ∷ 25 ∷ 13 ∷ 31 ∷ [])))  -- T3END
     ∷ []
 
 unfoldable pub askAt : ℕ → Ask

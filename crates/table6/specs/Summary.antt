@@ -6,7 +6,7 @@ use Rattle.unit.specs.declared.Mps.{Mps}
 use Rattle.unit.specs.declared.Ups.{Ups}
 use Rattle.table6.specs.declared.State.{State}
 use Rattle.table6.specs.Order.{signals}
-use Rattle.table6.specs.Cell.{Timer, T1, T2, T3, Act, AAL-RECEIVED-MESSAGE-indication, AAL-LINK-CONGESTED-indication, AAL-LINK-CONGESTION-CEASED-indication, AAL-IN-SERVICE-indication, AAL-OUT-OF-SERVICE-indication, AAL-RETRIEVED-MESSAGES-indication, AAL-RETRIEVAL-COMPLETE-indication, AAL-BSNT-confirm, AAL-BSNT-NOT-RETRIEVABLE-confirm, AA-ESTABLISH-request, AA-ESTABLISH-response, AA-RELEASE-request, AA-DATA-request, AA-RECOVER-response, AA-RETRIEVE-request, MAAL-PROVING-indication, MAAL-STOP-PROVING-indication, MAAL-REPORT-indication, Set-UPS=NM, Set-UPS=EM, Set-MPS=N, Set-MPS=NM, Set-MPS=EM, Set-LPO=0, Set-LPO=1, Set-INS-flag, Reset-INS-flag, Generate-N1, Set-C1=N1, Decrement-C1, Set, Reset, connection-up, take-BSNT, end, Choice, illegal, does}
+use Rattle.table6.specs.Cell.{Timer, T1, T2, T3, Told, Done, Act, tell, alter, Choice, illegal, does}
 
 -- A field is kept, or it takes a value.
 pub data Op (A : Type 0) : Type 0 where
@@ -64,42 +64,48 @@ abbrev pub up : Summary → Summary
 up s = with-ins (put false) (with-c1 decided s)
 
 -- One action more.
+abbrev pub then-told : Told → Summary → Summary
+then-told Told.AAL-RECEIVED-MESSAGE-indication s = s
+then-told Told.AAL-LINK-CONGESTED-indication s = s
+then-told Told.AAL-LINK-CONGESTION-CEASED-indication s = s
+then-told Told.AAL-IN-SERVICE-indication s = s
+then-told Told.AAL-OUT-OF-SERVICE-indication s = s
+then-told Told.AAL-RETRIEVED-MESSAGES-indication s = s
+then-told Told.AAL-RETRIEVAL-COMPLETE-indication s = s
+then-told Told.AAL-BSNT-confirm s = s
+then-told Told.AAL-BSNT-NOT-RETRIEVABLE-confirm s = s
+then-told Told.AA-ESTABLISH-request s = s
+then-told Told.AA-ESTABLISH-response s = up s
+then-told (Told.AA-RELEASE-request uu) s = s
+then-told (Told.AA-DATA-request mu) s = s
+then-told Told.AA-RECOVER-response s = s
+then-told Told.AA-RETRIEVE-request s = s
+then-told Told.MAAL-PROVING-indication s = s
+then-told Told.MAAL-STOP-PROVING-indication s = s
+then-told (Told.MAAL-REPORT-indication a b c) s = s
+then-told (Told.Set t) s = with-timer t true s
+then-told (Told.Reset t) s = with-timer t false s
+
+abbrev pub then-done : Done → Summary → Summary
+then-done Done.Set-UPS=NM s = with-ups (put Ups.Normal) s
+then-done Done.Set-UPS=EM s = with-ups (put Ups.Emergency) s
+then-done Done.Set-MPS=N s = with-mps (put Mps.Neutral) s
+then-done Done.Set-MPS=NM s = with-mps (put Mps.Normal) s
+then-done Done.Set-MPS=EM s = with-mps (put Mps.Emergency) s
+then-done Done.Set-LPO=0 s = with-lpo (put false) s
+then-done Done.Set-LPO=1 s = with-lpo (put true) s
+then-done Done.Set-INS-flag s = with-ins (put true) s
+then-done Done.Reset-INS-flag s = with-ins (put false) s
+then-done Done.Generate-N1 s = s
+then-done Done.Set-C1=N1 s = with-c1 decided s
+then-done Done.Decrement-C1 s = with-c1 (less (s .c1)) s
+then-done Done.connection-up s = up s
+then-done Done.take-BSNT s = taking s
+then-done (Done.end t) s = with-timer t false s
+
 abbrev pub then : Act → Summary → Summary
-then AAL-RECEIVED-MESSAGE-indication s = s
-then AAL-LINK-CONGESTED-indication s = s
-then AAL-LINK-CONGESTION-CEASED-indication s = s
-then AAL-IN-SERVICE-indication s = s
-then AAL-OUT-OF-SERVICE-indication s = s
-then AAL-RETRIEVED-MESSAGES-indication s = s
-then AAL-RETRIEVAL-COMPLETE-indication s = s
-then AAL-BSNT-confirm s = s
-then AAL-BSNT-NOT-RETRIEVABLE-confirm s = s
-then AA-ESTABLISH-request s = s
-then AA-ESTABLISH-response s = up s
-then (AA-RELEASE-request uu) s = s
-then (AA-DATA-request mu) s = s
-then AA-RECOVER-response s = s
-then AA-RETRIEVE-request s = s
-then MAAL-PROVING-indication s = s
-then MAAL-STOP-PROVING-indication s = s
-then (MAAL-REPORT-indication a b c) s = s
-then Set-UPS=NM s = with-ups (put Ups.Normal) s
-then Set-UPS=EM s = with-ups (put Ups.Emergency) s
-then Set-MPS=N s = with-mps (put Mps.Neutral) s
-then Set-MPS=NM s = with-mps (put Mps.Normal) s
-then Set-MPS=EM s = with-mps (put Mps.Emergency) s
-then Set-LPO=0 s = with-lpo (put false) s
-then Set-LPO=1 s = with-lpo (put true) s
-then Set-INS-flag s = with-ins (put true) s
-then Reset-INS-flag s = with-ins (put false) s
-then Generate-N1 s = s
-then Set-C1=N1 s = with-c1 decided s
-then Decrement-C1 s = with-c1 (less (s .c1)) s
-then (Set t) s = with-timer t true s
-then (Reset t) s = with-timer t false s
-then connection-up s = up s
-then take-BSNT s = taking s
-then (end t) s = with-timer t false s
+then (tell a) s = then-told a s
+then (alter a) s = then-done a s
 
 abbrev pub summary : List Act → Summary → Summary
 summary [] s = s
@@ -108,7 +114,7 @@ summary (a ∷ acts) s = summary acts (then a s)
 -- A choice, summed up behind what the event does by itself.
 pub data Summed : Type 0 where
   refused : Summed
-  summed : Summary → List Act → State → Summed
+  summed : Summary → List Told → State → Summed
 
 abbrev pub sum : List Act → Choice → Summed
 sum arrival illegal = refused

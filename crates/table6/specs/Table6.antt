@@ -2,11 +2,16 @@
 -- The columns of the table's second half stand beside those of its first. The readings of damaged places are in docs/DECISIONS.md.
 use Rattle.table6.specs.Words.{–, OOS, PO, INS, NM, ANS, MI, PE, PNS, LR, RR, SR, ALN, CC, CD, SREC, UDR, PDUT, SSCOP-UU, Parameter-Data}
 use Rattle.table6.specs.Words.{1/1/1, 1/4/1, 2/1/2, 2/2/2, 2/4/2, 3/10/5, 2/10/3, 2/10/4}
-use Rattle.table6.specs.Cell.{Row, Illegal, to, _⨟_, IF_THEN_ELSE_, T1, T2, T3, LPO=0, LPO=0&INS=0, LPO=0&INS=1, BSNT-available, MU>4}
-use Rattle.table6.specs.Cell.{AAL-RECEIVED-MESSAGE-indication, AAL-LINK-CONGESTED-indication, AAL-LINK-CONGESTION-CEASED-indication, AAL-IN-SERVICE-indication, AAL-OUT-OF-SERVICE-indication, AAL-RETRIEVED-MESSAGES-indication, AAL-RETRIEVAL-COMPLETE-indication, AAL-BSNT-confirm, AAL-BSNT-NOT-RETRIEVABLE-confirm}
+use Rattle.table6.specs.Cell.{Row, Illegal, to, _⨟_, _⨾_, IF_THEN_ELSE_, LPO=0, LPO=0&INS=0, LPO=0&INS=1, BSNT-available, MU>4}
+use Rattle.table6.specs.Cell.{AAL-RECEIVED-MESSAGE-indication, AAL-RETRIEVED-MESSAGES-indication, AAL-RETRIEVAL-COMPLETE-indication}
+use Rattle.table6.specs.Cell.{AAL-LINK-CONGESTED-indication, AAL-LINK-CONGESTION-CEASED-indication}
+use Rattle.table6.specs.Cell.{AAL-IN-SERVICE-indication, AAL-OUT-OF-SERVICE-indication}
+use Rattle.table6.specs.Cell.{AAL-BSNT-confirm, AAL-BSNT-NOT-RETRIEVABLE-confirm}
 use Rattle.table6.specs.Cell.{AA-ESTABLISH-request, AA-ESTABLISH-response, AA-RELEASE-request, AA-DATA-request, AA-RECOVER-response, AA-RETRIEVE-request}
 use Rattle.table6.specs.Cell.{MAAL-PROVING-indication, MAAL-STOP-PROVING-indication, MAAL-REPORT-indication}
-use Rattle.table6.specs.Cell.{Set-UPS=NM, Set-UPS=EM, Set-MPS=N, Set-MPS=NM, Set-MPS=EM, Set-LPO=0, Set-LPO=1, Set-INS-flag, Reset-INS-flag, Generate-N1, Set-C1=N1, Decrement-C1, Set, Reset}
+use Rattle.table6.specs.Cell.{Set, Reset, T1, T2, T3}
+use Rattle.table6.specs.Cell.{Set-UPS=NM, Set-UPS=EM, Set-MPS=N, Set-MPS=NM, Set-MPS=EM, Set-LPO=0, Set-LPO=1}
+use Rattle.table6.specs.Cell.{Set-INS-flag, Reset-INS-flag, Generate-N1, Set-C1=N1, Decrement-C1}
 
 -- AAL-START-request
 unfoldable pub AAL-START-request : Row
@@ -26,38 +31,38 @@ unfoldable pub AAL-STOP-request : Row
 AAL-STOP-request = record {
   1/1/1 = Illegal;
   1/4/1 = Illegal;
-  2/1/2 = Reset T1 ⨟ Reset T2 ⨟ Set-UPS=NM ⨟ MAAL-REPORT-indication – OOS – ⨟ to 1/1/1;
-  2/2/2 = AA-RELEASE-request OOS ⨟ Reset T2 ⨟ Set-UPS=NM ⨟ MAAL-REPORT-indication – OOS – ⨟ to 1/4/1;
-  2/4/2 = MAAL-REPORT-indication – OOS – ⨟ Reset T2 ⨟ Set-UPS=NM ⨟ to 1/4/1;
-  3/10/5 = AA-RELEASE-request OOS ⨟ MAAL-REPORT-indication LR OOS – ⨟ Set-UPS=NM ⨟ to 1/4/1;
-  2/10/3 = AA-RELEASE-request OOS ⨟ MAAL-REPORT-indication LR OOS – ⨟ MAAL-STOP-PROVING-indication ⨟ Reset T2 ⨟ Reset T3 ⨟ Set-UPS=NM ⨟ to 1/4/1;
-  2/10/4 = AA-RELEASE-request OOS ⨟ MAAL-REPORT-indication LR OOS – ⨟ Reset T2 ⨟ Set-UPS=NM ⨟ to 1/4/1;
+  2/1/2 = Reset T1 ⨟ Reset T2 ⨟ Set-UPS=NM ⨾ MAAL-REPORT-indication – OOS – ⨟ to 1/1/1;
+  2/2/2 = AA-RELEASE-request OOS ⨟ Reset T2 ⨟ Set-UPS=NM ⨾ MAAL-REPORT-indication – OOS – ⨟ to 1/4/1;
+  2/4/2 = MAAL-REPORT-indication – OOS – ⨟ Reset T2 ⨟ Set-UPS=NM ⨾ to 1/4/1;
+  3/10/5 = AA-RELEASE-request OOS ⨟ MAAL-REPORT-indication LR OOS – ⨟ Set-UPS=NM ⨾ to 1/4/1;
+  2/10/3 = AA-RELEASE-request OOS ⨟ MAAL-REPORT-indication LR OOS – ⨟ MAAL-STOP-PROVING-indication ⨟ Reset T2 ⨟ Reset T3 ⨟ Set-UPS=NM ⨾ to 1/4/1;
+  2/10/4 = AA-RELEASE-request OOS ⨟ MAAL-REPORT-indication LR OOS – ⨟ Reset T2 ⨟ Set-UPS=NM ⨾ to 1/4/1;
 }
 
 -- AAL-EMERGENCY-request
 unfoldable pub AAL-EMERGENCY-request : Row
 AAL-EMERGENCY-request = record {
-  1/1/1 = Set-UPS=EM ⨟ to 1/1/1;
-  1/4/1 = Set-UPS=EM ⨟ to 1/4/1;
-  2/1/2 = Set-UPS=EM ⨟ to 2/1/2;
-  2/2/2 = Set-UPS=EM ⨟ to 2/2/2;
-  2/4/2 = Set-UPS=EM ⨟ to 2/4/2;
+  1/1/1 = Set-UPS=EM ⨾ to 1/1/1;
+  1/4/1 = Set-UPS=EM ⨾ to 1/4/1;
+  2/1/2 = Set-UPS=EM ⨾ to 2/1/2;
+  2/2/2 = Set-UPS=EM ⨾ to 2/2/2;
+  2/4/2 = Set-UPS=EM ⨾ to 2/4/2;
   3/10/5 = Illegal;
-  2/10/3 = Set-UPS=EM ⨟ to 2/10/3;
-  2/10/4 = Set-UPS=EM ⨟ to 2/10/4;
+  2/10/3 = Set-UPS=EM ⨾ to 2/10/3;
+  2/10/4 = Set-UPS=EM ⨾ to 2/10/4;
 }
 
 -- AAL-EMERGENCY_CEASES-request
 unfoldable pub AAL-EMERGENCY-CEASES-request : Row
 AAL-EMERGENCY-CEASES-request = record {
-  1/1/1 = Set-UPS=NM ⨟ to 1/1/1;
-  1/4/1 = Set-UPS=NM ⨟ to 1/4/1;
-  2/1/2 = Set-UPS=NM ⨟ to 2/1/2;
-  2/2/2 = Set-UPS=NM ⨟ to 2/2/2;
-  2/4/2 = Set-UPS=NM ⨟ to 2/4/2;
+  1/1/1 = Set-UPS=NM ⨾ to 1/1/1;
+  1/4/1 = Set-UPS=NM ⨾ to 1/4/1;
+  2/1/2 = Set-UPS=NM ⨾ to 2/1/2;
+  2/2/2 = Set-UPS=NM ⨾ to 2/2/2;
+  2/4/2 = Set-UPS=NM ⨾ to 2/4/2;
   3/10/5 = Illegal;
-  2/10/3 = Set-UPS=NM ⨟ to 2/10/3;
-  2/10/4 = Set-UPS=NM ⨟ to 2/10/4;
+  2/10/3 = Set-UPS=NM ⨾ to 2/10/3;
+  2/10/4 = Set-UPS=NM ⨾ to 2/10/4;
 }
 
 -- AAL-MESSAGE_FOR_TRANSMISSION-request
@@ -136,7 +141,7 @@ AA-ESTABLISH-indication-with-EM-NM = record {
       IF LPO=0 THEN AA-RELEASE-request OOS ⨟ to 1/1/1
       ELSE AA-RELEASE-request PO ⨟ to 1/1/1;
   1/4/1 = Illegal;
-  2/1/2 = AA-ESTABLISH-response ⨟ MAAL-PROVING-indication ⨟ Reset T1 ⨟ Generate-N1 ⨟ Set-C1=N1 ⨟ Set T3 ⨟ Reset-INS-flag ⨟ to 2/10/3;
+  2/1/2 = AA-ESTABLISH-response ⨟ MAAL-PROVING-indication ⨟ Reset T1 ⨟ Generate-N1 ⨾ Set-C1=N1 ⨾ Set T3 ⨟ Reset-INS-flag ⨾ to 2/10/3;
   2/2/2 = Illegal;
   2/4/2 = Illegal;
   3/10/5 = Illegal;
@@ -165,7 +170,7 @@ AA-ESTABLISH-confirm-with-EM-NM = record {
   1/1/1 = Illegal;
   1/4/1 = Illegal;
   2/1/2 = Illegal;
-  2/2/2 = MAAL-PROVING-indication ⨟ Generate-N1 ⨟ Set-C1=N1 ⨟ Set T3 ⨟ Reset-INS-flag ⨟ to 2/10/3;
+  2/2/2 = MAAL-PROVING-indication ⨟ Generate-N1 ⨾ Set-C1=N1 ⨾ Set T3 ⨟ Reset-INS-flag ⨾ to 2/10/3;
   2/4/2 = Illegal;
   3/10/5 = Illegal;
   2/10/3 = Illegal;
@@ -193,7 +198,7 @@ AA-RELEASE-indication-from-User = record {
   2/1/2 = Illegal;
   2/2/2 = MAAL-REPORT-indication RR – SSCOP-UU ⨟ Set T1 ⨟ to 2/1/2;
   2/4/2 = Illegal;
-  3/10/5 = AAL-OUT-OF-SERVICE-indication ⨟ MAAL-REPORT-indication RR – SSCOP-UU ⨟ Set-UPS=NM ⨟ to 1/1/1;
+  3/10/5 = AAL-OUT-OF-SERVICE-indication ⨟ MAAL-REPORT-indication RR – SSCOP-UU ⨟ Set-UPS=NM ⨾ to 1/1/1;
   2/10/3 = MAAL-REPORT-indication RR – SSCOP-UU ⨟ MAAL-STOP-PROVING-indication ⨟ Set T1 ⨟ Reset T3 ⨟ to 2/1/2;
   2/10/4 = MAAL-REPORT-indication RR – SSCOP-UU ⨟ Set T1 ⨟ to 2/1/2;
 }
@@ -206,7 +211,7 @@ AA-RELEASE-indication-from-SSCOP = record {
   2/1/2 = Illegal;
   2/2/2 = MAAL-REPORT-indication SR – – ⨟ Set T1 ⨟ to 2/1/2;
   2/4/2 = Illegal;
-  3/10/5 = AAL-OUT-OF-SERVICE-indication ⨟ MAAL-REPORT-indication SR OOS – ⨟ Set-UPS=NM ⨟ to 1/1/1;
+  3/10/5 = AAL-OUT-OF-SERVICE-indication ⨟ MAAL-REPORT-indication SR OOS – ⨟ Set-UPS=NM ⨾ to 1/1/1;
   2/10/3 = MAAL-REPORT-indication SR – – ⨟ MAAL-STOP-PROVING-indication ⨟ Set T1 ⨟ Reset T3 ⨟ to 2/1/2;
   2/10/4 = MAAL-REPORT-indication SR – – ⨟ Set T1 ⨟ to 2/1/2;
 }
@@ -245,8 +250,8 @@ AA-DATA-indication-with-INS = record {
   2/1/2 = Illegal;
   2/2/2 = Illegal;
   2/4/2 = Illegal;
-  3/10/5 = AA-RELEASE-request PE ⨟ AAL-OUT-OF-SERVICE-indication ⨟ MAAL-REPORT-indication LR OOS PE ⨟ Set-UPS=NM ⨟ to 1/4/1;
-  2/10/3 = Set-INS-flag ⨟ to 2/10/3;
+  3/10/5 = AA-RELEASE-request PE ⨟ AAL-OUT-OF-SERVICE-indication ⨟ MAAL-REPORT-indication LR OOS PE ⨟ Set-UPS=NM ⨾ to 1/4/1;
+  2/10/3 = Set-INS-flag ⨾ to 2/10/3;
   2/10/4 = AAL-IN-SERVICE-indication ⨟ MAAL-REPORT-indication – INS – ⨟ Reset T2 ⨟ to 3/10/5;
 }
 
@@ -258,7 +263,7 @@ AA-DATA-indication-with-NM = record {
   2/1/2 = Illegal;
   2/2/2 = Illegal;
   2/4/2 = Illegal;
-  3/10/5 = AA-RELEASE-request PE ⨟ AAL-OUT-OF-SERVICE-indication ⨟ MAAL-REPORT-indication LR OOS PE ⨟ Set-UPS=NM ⨟ to 1/4/1;
+  3/10/5 = AA-RELEASE-request PE ⨟ AAL-OUT-OF-SERVICE-indication ⨟ MAAL-REPORT-indication LR OOS PE ⨟ Set-UPS=NM ⨾ to 1/4/1;
   2/10/3 = to 2/10/3;
   2/10/4 = to 2/10/4;
 }
@@ -284,7 +289,7 @@ AA-RESYNC-indication = record {
   2/1/2 = Illegal;
   2/2/2 = Illegal;
   2/4/2 = Illegal;
-  3/10/5 = AA-RELEASE-request PE ⨟ AAL-OUT-OF-SERVICE-indication ⨟ MAAL-REPORT-indication LR OOS PE ⨟ Set-UPS=NM ⨟ to 1/4/1;
+  3/10/5 = AA-RELEASE-request PE ⨟ AAL-OUT-OF-SERVICE-indication ⨟ MAAL-REPORT-indication LR OOS PE ⨟ Set-UPS=NM ⨾ to 1/4/1;
   2/10/3 = MAAL-REPORT-indication LR – PE ⨟ AA-RELEASE-request PE ⨟ MAAL-STOP-PROVING-indication ⨟ Reset T3 ⨟ to 2/4/2;
   2/10/4 = MAAL-REPORT-indication LR – PE ⨟ AA-RELEASE-request PE ⨟ to 2/4/2;
 }
@@ -363,77 +368,77 @@ unfoldable pub MAAL-RELEASE-request : Row
 MAAL-RELEASE-request = record {
   1/1/1 = to 1/1/1;
   1/4/1 = to 1/4/1;
-  2/1/2 = AAL-OUT-OF-SERVICE-indication ⨟ Reset T1 ⨟ Reset T2 ⨟ Set-UPS=NM ⨟ to 1/1/1;
-  2/2/2 = AA-RELEASE-request MI ⨟ AAL-OUT-OF-SERVICE-indication ⨟ Reset T2 ⨟ Set-UPS=NM ⨟ to 1/4/1;
-  2/4/2 = AAL-OUT-OF-SERVICE-indication ⨟ Reset T2 ⨟ Set-UPS=NM ⨟ to 1/4/1;
-  3/10/5 = AA-RELEASE-request MI ⨟ AAL-OUT-OF-SERVICE-indication ⨟ Set-UPS=NM ⨟ to 1/4/1;
-  2/10/3 = AA-RELEASE-request MI ⨟ AAL-OUT-OF-SERVICE-indication ⨟ Reset T2 ⨟ Reset T3 ⨟ Set-UPS=NM ⨟ to 1/4/1;
-  2/10/4 = AA-RELEASE-request MI ⨟ AAL-OUT-OF-SERVICE-indication ⨟ Reset T2 ⨟ Set-UPS=NM ⨟ to 1/4/1;
+  2/1/2 = AAL-OUT-OF-SERVICE-indication ⨟ Reset T1 ⨟ Reset T2 ⨟ Set-UPS=NM ⨾ to 1/1/1;
+  2/2/2 = AA-RELEASE-request MI ⨟ AAL-OUT-OF-SERVICE-indication ⨟ Reset T2 ⨟ Set-UPS=NM ⨾ to 1/4/1;
+  2/4/2 = AAL-OUT-OF-SERVICE-indication ⨟ Reset T2 ⨟ Set-UPS=NM ⨾ to 1/4/1;
+  3/10/5 = AA-RELEASE-request MI ⨟ AAL-OUT-OF-SERVICE-indication ⨟ Set-UPS=NM ⨾ to 1/4/1;
+  2/10/3 = AA-RELEASE-request MI ⨟ AAL-OUT-OF-SERVICE-indication ⨟ Reset T2 ⨟ Reset T3 ⨟ Set-UPS=NM ⨾ to 1/4/1;
+  2/10/4 = AA-RELEASE-request MI ⨟ AAL-OUT-OF-SERVICE-indication ⨟ Reset T2 ⨟ Set-UPS=NM ⨾ to 1/4/1;
 }
 
 -- MAAL-LOCAL_PROCESSOR_OUTAGE-request
 unfoldable pub MAAL-LOCAL-PROCESSOR-OUTAGE-request : Row
 MAAL-LOCAL-PROCESSOR-OUTAGE-request = record {
-  1/1/1 = Set-LPO=1 ⨟ to 1/1/1;
-  1/4/1 = Set-LPO=1 ⨟ to 1/4/1;
-  2/1/2 = Set-LPO=1 ⨟ to 2/1/2;
-  2/2/2 = Set-LPO=1 ⨟ to 2/2/2;
-  2/4/2 = Set-LPO=1 ⨟ to 2/4/2;
-  3/10/5 = Set-LPO=1 ⨟ AA-RELEASE-request PO ⨟ AAL-OUT-OF-SERVICE-indication ⨟ Set-UPS=NM ⨟ to 1/4/1;
-  2/10/3 = Set-LPO=1 ⨟ to 2/10/3;
-  2/10/4 = Set-LPO=1 ⨟ AA-RELEASE-request PO ⨟ AAL-OUT-OF-SERVICE-indication ⨟ Set-UPS=NM ⨟ Reset T2 ⨟ to 1/4/1;
+  1/1/1 = Set-LPO=1 ⨾ to 1/1/1;
+  1/4/1 = Set-LPO=1 ⨾ to 1/4/1;
+  2/1/2 = Set-LPO=1 ⨾ to 2/1/2;
+  2/2/2 = Set-LPO=1 ⨾ to 2/2/2;
+  2/4/2 = Set-LPO=1 ⨾ to 2/4/2;
+  3/10/5 = Set-LPO=1 ⨾ AA-RELEASE-request PO ⨟ AAL-OUT-OF-SERVICE-indication ⨟ Set-UPS=NM ⨾ to 1/4/1;
+  2/10/3 = Set-LPO=1 ⨾ to 2/10/3;
+  2/10/4 = Set-LPO=1 ⨾ AA-RELEASE-request PO ⨟ AAL-OUT-OF-SERVICE-indication ⨟ Set-UPS=NM ⨾ Reset T2 ⨟ to 1/4/1;
 }
 
 -- MAAL-LOCAL_PROCESSOR_RECOVERED-request
 unfoldable pub MAAL-LOCAL-PROCESSOR-RECOVERED-request : Row
 MAAL-LOCAL-PROCESSOR-RECOVERED-request = record {
-  1/1/1 = Set-LPO=0 ⨟ to 1/1/1;
-  1/4/1 = Set-LPO=0 ⨟ to 1/4/1;
-  2/1/2 = Set-LPO=0 ⨟ to 2/1/2;
-  2/2/2 = Set-LPO=0 ⨟ to 2/2/2;
-  2/4/2 = Set-LPO=0 ⨟ to 2/4/2;
+  1/1/1 = Set-LPO=0 ⨾ to 1/1/1;
+  1/4/1 = Set-LPO=0 ⨾ to 1/4/1;
+  2/1/2 = Set-LPO=0 ⨾ to 2/1/2;
+  2/2/2 = Set-LPO=0 ⨾ to 2/2/2;
+  2/4/2 = Set-LPO=0 ⨾ to 2/4/2;
   3/10/5 = Illegal;
-  2/10/3 = Set-LPO=0 ⨟ to 2/10/3;
+  2/10/3 = Set-LPO=0 ⨾ to 2/10/3;
   2/10/4 = Illegal;
 }
 
 -- MAAL-FORCE_PROVING-request
 unfoldable pub MAAL-FORCE-PROVING-request : Row
 MAAL-FORCE-PROVING-request = record {
-  1/1/1 = Set-MPS=NM ⨟ to 1/1/1;
-  1/4/1 = Set-MPS=NM ⨟ to 1/4/1;
-  2/1/2 = Set-MPS=NM ⨟ to 2/1/2;
-  2/2/2 = Set-MPS=NM ⨟ to 2/2/2;
-  2/4/2 = Set-MPS=NM ⨟ to 2/4/2;
-  3/10/5 = Set-MPS=NM ⨟ to 3/10/5;
-  2/10/3 = Set-MPS=NM ⨟ to 2/10/3;
-  2/10/4 = Set-MPS=NM ⨟ to 2/10/4;
+  1/1/1 = Set-MPS=NM ⨾ to 1/1/1;
+  1/4/1 = Set-MPS=NM ⨾ to 1/4/1;
+  2/1/2 = Set-MPS=NM ⨾ to 2/1/2;
+  2/2/2 = Set-MPS=NM ⨾ to 2/2/2;
+  2/4/2 = Set-MPS=NM ⨾ to 2/4/2;
+  3/10/5 = Set-MPS=NM ⨾ to 3/10/5;
+  2/10/3 = Set-MPS=NM ⨾ to 2/10/3;
+  2/10/4 = Set-MPS=NM ⨾ to 2/10/4;
 }
 
 -- MAAL-FORCE_EMERGENCY-request
 unfoldable pub MAAL-FORCE-EMERGENCY-request : Row
 MAAL-FORCE-EMERGENCY-request = record {
-  1/1/1 = Set-MPS=EM ⨟ to 1/1/1;
-  1/4/1 = Set-MPS=EM ⨟ to 1/4/1;
-  2/1/2 = Set-MPS=EM ⨟ to 2/1/2;
-  2/2/2 = Set-MPS=EM ⨟ to 2/2/2;
-  2/4/2 = Set-MPS=EM ⨟ to 2/4/2;
-  3/10/5 = Set-MPS=EM ⨟ to 3/10/5;
-  2/10/3 = Set-MPS=EM ⨟ to 2/10/3;
-  2/10/4 = Set-MPS=EM ⨟ to 2/10/4;
+  1/1/1 = Set-MPS=EM ⨾ to 1/1/1;
+  1/4/1 = Set-MPS=EM ⨾ to 1/4/1;
+  2/1/2 = Set-MPS=EM ⨾ to 2/1/2;
+  2/2/2 = Set-MPS=EM ⨾ to 2/2/2;
+  2/4/2 = Set-MPS=EM ⨾ to 2/4/2;
+  3/10/5 = Set-MPS=EM ⨾ to 3/10/5;
+  2/10/3 = Set-MPS=EM ⨾ to 2/10/3;
+  2/10/4 = Set-MPS=EM ⨾ to 2/10/4;
 }
 
 -- MAAL-CLEAR_FORCE_MODES-request
 unfoldable pub MAAL-CLEAR-FORCE-MODES-request : Row
 MAAL-CLEAR-FORCE-MODES-request = record {
-  1/1/1 = Set-MPS=N ⨟ to 1/1/1;
-  1/4/1 = Set-MPS=N ⨟ to 1/4/1;
-  2/1/2 = Set-MPS=N ⨟ to 2/1/2;
-  2/2/2 = Set-MPS=N ⨟ to 2/2/2;
-  2/4/2 = Set-MPS=N ⨟ to 2/4/2;
-  3/10/5 = Set-MPS=N ⨟ to 3/10/5;
-  2/10/3 = Set-MPS=N ⨟ to 2/10/3;
-  2/10/4 = Set-MPS=N ⨟ to 2/10/4;
+  1/1/1 = Set-MPS=N ⨾ to 1/1/1;
+  1/4/1 = Set-MPS=N ⨾ to 1/4/1;
+  2/1/2 = Set-MPS=N ⨾ to 2/1/2;
+  2/2/2 = Set-MPS=N ⨾ to 2/2/2;
+  2/4/2 = Set-MPS=N ⨾ to 2/4/2;
+  3/10/5 = Set-MPS=N ⨾ to 3/10/5;
+  2/10/3 = Set-MPS=N ⨾ to 2/10/3;
+  2/10/4 = Set-MPS=N ⨾ to 2/10/4;
 }
 
 -- Local Congestion (Note 5)
@@ -480,12 +485,12 @@ unfoldable pub T2-expires : Row
 T2-expires = record {
   1/1/1 = Illegal;
   1/4/1 = Illegal;
-  2/1/2 = AAL-OUT-OF-SERVICE-indication ⨟ MAAL-REPORT-indication LR OOS ANS ⨟ Reset T1 ⨟ Set-UPS=NM ⨟ to 1/1/1;
-  2/2/2 = AA-RELEASE-request ANS ⨟ AAL-OUT-OF-SERVICE-indication ⨟ MAAL-REPORT-indication LR OOS ANS ⨟ Set-UPS=NM ⨟ to 1/4/1;
-  2/4/2 = AAL-OUT-OF-SERVICE-indication ⨟ MAAL-REPORT-indication – OOS ANS ⨟ Set-UPS=NM ⨟ to 1/4/1;
+  2/1/2 = AAL-OUT-OF-SERVICE-indication ⨟ MAAL-REPORT-indication LR OOS ANS ⨟ Reset T1 ⨟ Set-UPS=NM ⨾ to 1/1/1;
+  2/2/2 = AA-RELEASE-request ANS ⨟ AAL-OUT-OF-SERVICE-indication ⨟ MAAL-REPORT-indication LR OOS ANS ⨟ Set-UPS=NM ⨾ to 1/4/1;
+  2/4/2 = AAL-OUT-OF-SERVICE-indication ⨟ MAAL-REPORT-indication – OOS ANS ⨟ Set-UPS=NM ⨾ to 1/4/1;
   3/10/5 = Illegal;
-  2/10/3 = MAAL-REPORT-indication LR OOS ANS ⨟ MAAL-STOP-PROVING-indication ⨟ AAL-OUT-OF-SERVICE-indication ⨟ AA-RELEASE-request ANS ⨟ Reset T3 ⨟ Set-UPS=NM ⨟ to 1/4/1;
-  2/10/4 = MAAL-REPORT-indication LR OOS ANS ⨟ AAL-OUT-OF-SERVICE-indication ⨟ AA-RELEASE-request ANS ⨟ Set-UPS=NM ⨟ to 1/4/1;
+  2/10/3 = MAAL-REPORT-indication LR OOS ANS ⨟ MAAL-STOP-PROVING-indication ⨟ AAL-OUT-OF-SERVICE-indication ⨟ AA-RELEASE-request ANS ⨟ Reset T3 ⨟ Set-UPS=NM ⨾ to 1/4/1;
+  2/10/4 = MAAL-REPORT-indication LR OOS ANS ⨟ AAL-OUT-OF-SERVICE-indication ⨟ AA-RELEASE-request ANS ⨟ Set-UPS=NM ⨾ to 1/4/1;
 }
 
 -- T3 expires and C1 > 0
@@ -497,7 +502,7 @@ T3-expires-and-C1>0 = record {
   2/2/2 = Illegal;
   2/4/2 = Illegal;
   3/10/5 = Illegal;
-  2/10/3 = AA-DATA-request NM ⨟ Decrement-C1 ⨟ Set T3 ⨟ to 2/10/3;
+  2/10/3 = AA-DATA-request NM ⨟ Decrement-C1 ⨾ Set T3 ⨟ to 2/10/3;
   2/10/4 = Illegal;
 }
 
@@ -513,6 +518,6 @@ T3-expires-and-C1=0 = record {
   2/10/3 =
       IF LPO=0&INS=0 THEN MAAL-STOP-PROVING-indication ⨟ AA-DATA-request INS ⨟ to 2/10/4
       ELSE IF LPO=0&INS=1 THEN MAAL-STOP-PROVING-indication ⨟ AA-DATA-request INS ⨟ MAAL-REPORT-indication – INS – ⨟ AAL-IN-SERVICE-indication ⨟ Reset T2 ⨟ to 3/10/5
-      ELSE AA-RELEASE-request PO ⨟ AAL-OUT-OF-SERVICE-indication ⨟ MAAL-REPORT-indication LR OOS – ⨟ MAAL-STOP-PROVING-indication ⨟ Reset T2 ⨟ Set-UPS=NM ⨟ to 1/4/1;
+      ELSE AA-RELEASE-request PO ⨟ AAL-OUT-OF-SERVICE-indication ⨟ MAAL-REPORT-indication LR OOS – ⨟ MAAL-STOP-PROVING-indication ⨟ Reset T2 ⨟ Set-UPS=NM ⨾ to 1/4/1;
   2/10/4 = Illegal;
 }

@@ -4,516 +4,168 @@ use crate::rows;
 ghost use mathlib.Core.Path.{_≡_};
 ghost use Rattle.table6.specs.Stored.{codeAt, place, rowOf};
 
-// Codes of what a cell does: the event, and the state where the event does one thing here and another there.
-pub const MESSAGE: u8 = 0;
+// Codes of what a cell does: the event, and document 01's code of the state where it does one thing here and another there.
+pub const MESSG: u8 = 0; // MESSAGE_FOR_TRANSMISSION
 
-pub const EMERGENCY: u8 = 1;
+pub const EMERG: u8 = 1;
 
-pub const EMERGENCY_CEASES: u8 = 2;
+pub const EMOFF: u8 = 2; // EMERGENCY_CEASES
 
-pub const STOP_212: u8 = 3;
+pub const STOP3: u8 = 3;
 
-pub const STOP_222: u8 = 4;
+pub const STOP4: u8 = 4;
 
-pub const STOP_242: u8 = 5;
+pub const STOP5: u8 = 5;
 
-pub const STOP_2103: u8 = 6;
+pub const STOP6: u8 = 6;
 
-pub const STOP_2104: u8 = 7;
+pub const STOP7: u8 = 7;
 
-pub const STOP_3105: u8 = 8;
+pub const STOP8: u8 = 8;
 
 pub const START: u8 = 9;
 
-pub const RETRIEVE_BSNT: u8 = 10;
+pub const BSNT_: u8 = 10; // RETRIEVE_BSNT
 
-pub const RETRIEVAL: u8 = 11;
+pub const FSNC_: u8 = 11; // RETRIEVAL_REQUEST_AND_FSNC
 
-pub const IGNORED: u8 = 12;
+pub const IGNOR: u8 = 12; // accepted, nothing emitted, nothing changed
 
-pub const ESTABLISH_111: u8 = 13;
+pub const EIND1: u8 = 13; // ESTABLISH-indication
 
-pub const ESTABLISH_212: u8 = 14;
+pub const EIND3: u8 = 14;
 
-pub const CONFIRM_222: u8 = 15;
+pub const ECNF4: u8 = 15; // ESTABLISH-confirm
 
-pub const RELEASED_BY: u8 = 16;
+pub const RIND_: u8 = 16; // RELEASE-indication
 
-pub const RELEASED_BY_2103: u8 = 17;
+pub const RIND6: u8 = 17;
 
-pub const RELEASED_BY_3105: u8 = 18;
+pub const RIND8: u8 = 18;
 
-pub const RELEASE_CONFIRMED_141: u8 = 19;
+pub const RCNF2: u8 = 19; // RELEASE-confirm
 
-pub const RELEASE_CONFIRMED_242: u8 = 20;
+pub const RCNF5: u8 = 20;
 
-pub const INS_2103: u8 = 21;
+pub const INS_6: u8 = 21; // DATA, an INS unit
 
-pub const INS_2104: u8 = 22;
+pub const INS_7: u8 = 22;
 
-pub const UNIT_3105: u8 = 23;
+pub const UNIT8: u8 = 23; // DATA, an INS or an NM unit
 
-pub const UNIT_TAKEN: u8 = 24;
+pub const UNIT_: u8 = 24; // DATA that does no more than give its number to BSNT
 
-pub const LONG_2103: u8 = 25;
+pub const LONG6: u8 = 25; // DATA of more than four octets
 
-pub const LONG_2104: u8 = 26;
+pub const LONG7: u8 = 26;
 
-pub const LONG_3105: u8 = 27;
+pub const LONG8: u8 = 27;
 
-pub const RESYNC_2103: u8 = 28;
+pub const RSYN6: u8 = 28; // RESYNC, and RECOVER in 6
 
-pub const RESYNC_2104: u8 = 29;
+pub const RSYN7: u8 = 29;
 
-pub const RESYNC_3105: u8 = 30;
+pub const RSYN8: u8 = 30;
 
-pub const RECOVER: u8 = 31;
+pub const RECOV: u8 = 31;
 
-pub const UNITDATA: u8 = 32;
+pub const UDATA: u8 = 32; // UNITDATA
 
-pub const RETRIEVE: u8 = 33;
+pub const RETRV: u8 = 33; // RETRIEVE-indication
 
-pub const RETRIEVE_COMPLETE: u8 = 34;
+pub const RCOMP: u8 = 34; // RETRIEVE_COMPLETE
 
-pub const PROVING_UNSUCCESSFUL: u8 = 35;
+pub const PFAIL: u8 = 35; // PROVING_UNSUCCESSFUL
 
-pub const RELEASE_212: u8 = 36;
+pub const MREL3: u8 = 36; // management's RELEASE
 
-pub const RELEASE_222: u8 = 37;
+pub const MREL4: u8 = 37; // in 7 too
 
-pub const RELEASE_242: u8 = 38;
+pub const MREL5: u8 = 38;
 
-pub const RELEASE_2103: u8 = 39;
+pub const MREL6: u8 = 39;
 
-pub const RELEASE_3105: u8 = 40;
+pub const MREL8: u8 = 40;
 
-pub const OUTAGE: u8 = 41;
+pub const OUTG_: u8 = 41; // LOCAL_PROCESSOR_OUTAGE
 
-pub const OUTAGE_2104: u8 = 42;
+pub const OUTG7: u8 = 42;
 
-pub const OUTAGE_3105: u8 = 43;
+pub const OUTG8: u8 = 43;
 
-pub const RECOVERED: u8 = 44;
+pub const RCVRD: u8 = 44; // LOCAL_PROCESSOR_RECOVERED
 
-pub const FORCE_PROVING: u8 = 45;
+pub const FPROV: u8 = 45; // FORCE_PROVING
 
-pub const FORCE_EMERGENCY: u8 = 46;
+pub const FEMER: u8 = 46; // FORCE_EMERGENCY
 
-pub const CLEAR_FORCE_MODES: u8 = 47;
+pub const FCLR_: u8 = 47; // CLEAR_FORCE_MODES
 
-pub const CONGESTION_2103: u8 = 48;
+pub const CONG6: u8 = 48; // congestion
 
-pub const CONGESTION: u8 = 49;
+pub const CONG_: u8 = 49;
 
-pub const CEASED_242: u8 = 50;
+pub const CEAS5: u8 = 50; // congestion ceased
 
-pub const CEASED: u8 = 51;
+pub const CEAS_: u8 = 51;
 
-pub const T1_212: u8 = 52;
+pub const T1EX3: u8 = 52; // T1 expires
 
-pub const T2_212: u8 = 53;
+pub const T2EX3: u8 = 53; // T2 expires
 
-pub const T2_222: u8 = 54;
+pub const T2EX4: u8 = 54;
 
-pub const T2_242: u8 = 55;
+pub const T2EX5: u8 = 55;
 
-pub const T2_2103: u8 = 56;
+pub const T2EX6: u8 = 56;
 
-pub const T2_2104: u8 = 57;
+pub const T2EX7: u8 = 57;
 
-pub const T3_PROVING: u8 = 58;
+pub const T3PRV: u8 = 58; // T3 expires, C1 > 0
 
-pub const T3_DONE: u8 = 59;
+pub const T3END: u8 = 59; // T3 expires, C1 = 0
 
-const ILLEGAL: u8 = 60;
+const _____: u8 = 60; // Illegal
 
-// Rows by states: in each row 1/1/1, 1/4/1, 2/1/2, 2/2/2, 2/4/2, 2/10/3, 2/10/4, 3/10/5.
+// Rows by states, with document 01's codes of the states above them.
 const TABLE_6: [[u8; 8]; 35] = [
-    // AAL-MESSAGE_FOR_TRANSMISSION-request
-    [
-        ILLEGAL,
-        ILLEGAL,
-        ILLEGAL,
-        ILLEGAL,
-        ILLEGAL,
-        ILLEGAL,
-        ILLEGAL,
-        MESSAGE,
-    ],
-    // AAL-EMERGENCY-request
-    [
-        EMERGENCY,
-        EMERGENCY,
-        EMERGENCY,
-        EMERGENCY,
-        EMERGENCY,
-        EMERGENCY,
-        EMERGENCY,
-        ILLEGAL,
-    ],
-    // AAL-EMERGENCY_CEASES-request
-    [
-        EMERGENCY_CEASES,
-        EMERGENCY_CEASES,
-        EMERGENCY_CEASES,
-        EMERGENCY_CEASES,
-        EMERGENCY_CEASES,
-        EMERGENCY_CEASES,
-        EMERGENCY_CEASES,
-        ILLEGAL,
-    ],
-    // AAL-STOP-request
-    [
-        ILLEGAL,
-        ILLEGAL,
-        STOP_212,
-        STOP_222,
-        STOP_242,
-        STOP_2103,
-        STOP_2104,
-        STOP_3105,
-    ],
-    // AAL-START-request
-    [
-        START,
-        START,
-        ILLEGAL,
-        ILLEGAL,
-        ILLEGAL,
-        ILLEGAL,
-        ILLEGAL,
-        ILLEGAL,
-    ],
-    // AAL-RETRIEVE_BSNT-request
-    [
-        RETRIEVE_BSNT,
-        RETRIEVE_BSNT,
-        ILLEGAL,
-        ILLEGAL,
-        ILLEGAL,
-        ILLEGAL,
-        ILLEGAL,
-        ILLEGAL,
-    ],
-    // AAL-RETRIEVAL_REQUEST_AND_FSNC-request
-    [
-        RETRIEVAL,
-        RETRIEVAL,
-        ILLEGAL,
-        ILLEGAL,
-        ILLEGAL,
-        ILLEGAL,
-        ILLEGAL,
-        ILLEGAL,
-    ],
-    // AAL-FLUSH_BUFFERS-request
-    [
-        IGNORED,
-        IGNORED,
-        IGNORED,
-        IGNORED,
-        IGNORED,
-        IGNORED,
-        IGNORED,
-        IGNORED,
-    ],
-    // AAL-CONTINUE-request
-    [
-        IGNORED,
-        IGNORED,
-        IGNORED,
-        IGNORED,
-        IGNORED,
-        IGNORED,
-        IGNORED,
-        IGNORED,
-    ],
-    // AA-ESTABLISH-indication
-    [
-        ESTABLISH_111,
-        ILLEGAL,
-        ESTABLISH_212,
-        ILLEGAL,
-        ILLEGAL,
-        ILLEGAL,
-        ILLEGAL,
-        ILLEGAL,
-    ],
-    // AA-ESTABLISH-confirm
-    [
-        ILLEGAL,
-        ILLEGAL,
-        ILLEGAL,
-        CONFIRM_222,
-        ILLEGAL,
-        ILLEGAL,
-        ILLEGAL,
-        ILLEGAL,
-    ],
-    // AA-RELEASE-indication
-    [
-        ILLEGAL,
-        ILLEGAL,
-        ILLEGAL,
-        RELEASED_BY,
-        ILLEGAL,
-        RELEASED_BY_2103,
-        RELEASED_BY,
-        RELEASED_BY_3105,
-    ],
-    // AA-RELEASE-confirm
-    [
-        ILLEGAL,
-        RELEASE_CONFIRMED_141,
-        ILLEGAL,
-        ILLEGAL,
-        RELEASE_CONFIRMED_242,
-        ILLEGAL,
-        ILLEGAL,
-        ILLEGAL,
-    ],
-    // AA-DATA-indication, INS unit
-    [
-        ILLEGAL,
-        ILLEGAL,
-        ILLEGAL,
-        ILLEGAL,
-        ILLEGAL,
-        INS_2103,
-        INS_2104,
-        UNIT_3105,
-    ],
-    // AA-DATA-indication, NM unit
-    [
-        ILLEGAL,
-        ILLEGAL,
-        ILLEGAL,
-        ILLEGAL,
-        ILLEGAL,
-        UNIT_TAKEN,
-        UNIT_TAKEN,
-        UNIT_3105,
-    ],
-    // AA-DATA-indication, other unit or short
-    [
-        ILLEGAL,
-        ILLEGAL,
-        ILLEGAL,
-        ILLEGAL,
-        ILLEGAL,
-        UNIT_TAKEN,
-        UNIT_TAKEN,
-        UNIT_TAKEN,
-    ],
-    // AA-DATA-indication, long message
-    [
-        ILLEGAL,
-        ILLEGAL,
-        ILLEGAL,
-        ILLEGAL,
-        ILLEGAL,
-        LONG_2103,
-        LONG_2104,
-        LONG_3105,
-    ],
-    // AA-RESYNC-indication
-    [
-        ILLEGAL,
-        ILLEGAL,
-        ILLEGAL,
-        ILLEGAL,
-        ILLEGAL,
-        RESYNC_2103,
-        RESYNC_2104,
-        RESYNC_3105,
-    ],
-    // AA-RECOVER-indication
-    [
-        ILLEGAL,
-        ILLEGAL,
-        ILLEGAL,
-        ILLEGAL,
-        ILLEGAL,
-        RESYNC_2103,
-        RECOVER,
-        RECOVER,
-    ],
-    // AA-UNITDATA-indication
-    [
-        UNITDATA,
-        UNITDATA,
-        UNITDATA,
-        UNITDATA,
-        UNITDATA,
-        UNITDATA,
-        UNITDATA,
-        UNITDATA,
-    ],
-    // AA-RETRIEVE-indication
-    [
-        RETRIEVE,
-        RETRIEVE,
-        ILLEGAL,
-        ILLEGAL,
-        ILLEGAL,
-        ILLEGAL,
-        ILLEGAL,
-        ILLEGAL,
-    ],
-    // AA-RETRIEVE_COMPLETE-indication
-    [
-        RETRIEVE_COMPLETE,
-        RETRIEVE_COMPLETE,
-        ILLEGAL,
-        ILLEGAL,
-        ILLEGAL,
-        ILLEGAL,
-        ILLEGAL,
-        ILLEGAL,
-    ],
-    // MAAL-PROVING_UNSUCCESSFUL-response
-    [
-        ILLEGAL,
-        ILLEGAL,
-        ILLEGAL,
-        ILLEGAL,
-        ILLEGAL,
-        PROVING_UNSUCCESSFUL,
-        ILLEGAL,
-        ILLEGAL,
-    ],
-    // MAAL-RELEASE-request
-    [
-        IGNORED,
-        IGNORED,
-        RELEASE_212,
-        RELEASE_222,
-        RELEASE_242,
-        RELEASE_2103,
-        RELEASE_222,
-        RELEASE_3105,
-    ],
-    // MAAL-LOCAL_PROCESSOR_OUTAGE-request
-    [
-        OUTAGE,
-        OUTAGE,
-        OUTAGE,
-        OUTAGE,
-        OUTAGE,
-        OUTAGE,
-        OUTAGE_2104,
-        OUTAGE_3105,
-    ],
-    // MAAL-LOCAL_PROCESSOR_RECOVERED-request
-    [
-        RECOVERED,
-        RECOVERED,
-        RECOVERED,
-        RECOVERED,
-        RECOVERED,
-        RECOVERED,
-        ILLEGAL,
-        ILLEGAL,
-    ],
-    // MAAL-FORCE_PROVING-request
-    [
-        FORCE_PROVING,
-        FORCE_PROVING,
-        FORCE_PROVING,
-        FORCE_PROVING,
-        FORCE_PROVING,
-        FORCE_PROVING,
-        FORCE_PROVING,
-        FORCE_PROVING,
-    ],
-    // MAAL-FORCE_EMERGENCY-request
-    [
-        FORCE_EMERGENCY,
-        FORCE_EMERGENCY,
-        FORCE_EMERGENCY,
-        FORCE_EMERGENCY,
-        FORCE_EMERGENCY,
-        FORCE_EMERGENCY,
-        FORCE_EMERGENCY,
-        FORCE_EMERGENCY,
-    ],
-    // MAAL-CLEAR_FORCE_MODES-request
-    [
-        CLEAR_FORCE_MODES,
-        CLEAR_FORCE_MODES,
-        CLEAR_FORCE_MODES,
-        CLEAR_FORCE_MODES,
-        CLEAR_FORCE_MODES,
-        CLEAR_FORCE_MODES,
-        CLEAR_FORCE_MODES,
-        CLEAR_FORCE_MODES,
-    ],
-    // Local Congestion
-    [
-        IGNORED,
-        IGNORED,
-        IGNORED,
-        IGNORED,
-        IGNORED,
-        CONGESTION_2103,
-        CONGESTION,
-        CONGESTION,
-    ],
-    // Local Congestion Ceased
-    [
-        IGNORED,
-        IGNORED,
-        IGNORED,
-        IGNORED,
-        CEASED_242,
-        ILLEGAL,
-        CEASED,
-        CEASED,
-    ],
-    // T1 expires
-    [
-        ILLEGAL,
-        ILLEGAL,
-        T1_212,
-        ILLEGAL,
-        ILLEGAL,
-        ILLEGAL,
-        ILLEGAL,
-        ILLEGAL,
-    ],
-    // T2 expires
-    [
-        ILLEGAL,
-        ILLEGAL,
-        T2_212,
-        T2_222,
-        T2_242,
-        T2_2103,
-        T2_2104,
-        ILLEGAL,
-    ],
-    // T3 expires and C1 > 0
-    [
-        ILLEGAL,
-        ILLEGAL,
-        ILLEGAL,
-        ILLEGAL,
-        ILLEGAL,
-        T3_PROVING,
-        ILLEGAL,
-        ILLEGAL,
-    ],
-    // T3 expires and C1 = 0
-    [
-        ILLEGAL,
-        ILLEGAL,
-        ILLEGAL,
-        ILLEGAL,
-        ILLEGAL,
-        T3_DONE,
-        ILLEGAL,
-        ILLEGAL,
-    ],
+    // 1      2      3      4      5      6      7      8
+    // 1/1/1  1/4/1  2/1/2  2/2/2  2/4/2  2/10/3 2/10/4 3/10/5
+    [_____, _____, _____, _____, _____, _____, _____, MESSG], // AAL-MESSAGE_FOR_TRANSMISSION-request
+    [EMERG, EMERG, EMERG, EMERG, EMERG, EMERG, EMERG, _____], // AAL-EMERGENCY-request
+    [EMOFF, EMOFF, EMOFF, EMOFF, EMOFF, EMOFF, EMOFF, _____], // AAL-EMERGENCY_CEASES-request
+    [_____, _____, STOP3, STOP4, STOP5, STOP6, STOP7, STOP8], // AAL-STOP-request
+    [START, START, _____, _____, _____, _____, _____, _____], // AAL-START-request
+    [BSNT_, BSNT_, _____, _____, _____, _____, _____, _____], // AAL-RETRIEVE_BSNT-request
+    [FSNC_, FSNC_, _____, _____, _____, _____, _____, _____], // AAL-RETRIEVAL_REQUEST_AND_FSNC-request
+    [IGNOR, IGNOR, IGNOR, IGNOR, IGNOR, IGNOR, IGNOR, IGNOR], // AAL-FLUSH_BUFFERS-request
+    [IGNOR, IGNOR, IGNOR, IGNOR, IGNOR, IGNOR, IGNOR, IGNOR], // AAL-CONTINUE-request
+    [EIND1, _____, EIND3, _____, _____, _____, _____, _____], // AA-ESTABLISH-indication
+    [_____, _____, _____, ECNF4, _____, _____, _____, _____], // AA-ESTABLISH-confirm
+    [_____, _____, _____, RIND_, _____, RIND6, RIND_, RIND8], // AA-RELEASE-indication
+    [_____, RCNF2, _____, _____, RCNF5, _____, _____, _____], // AA-RELEASE-confirm
+    [_____, _____, _____, _____, _____, INS_6, INS_7, UNIT8], // AA-DATA-indication, INS unit
+    [_____, _____, _____, _____, _____, UNIT_, UNIT_, UNIT8], // AA-DATA-indication, NM unit
+    [_____, _____, _____, _____, _____, UNIT_, UNIT_, UNIT_], // AA-DATA-indication, other unit or short
+    [_____, _____, _____, _____, _____, LONG6, LONG7, LONG8], // AA-DATA-indication, long message
+    [_____, _____, _____, _____, _____, RSYN6, RSYN7, RSYN8], // AA-RESYNC-indication
+    [_____, _____, _____, _____, _____, RSYN6, RECOV, RECOV], // AA-RECOVER-indication
+    [UDATA, UDATA, UDATA, UDATA, UDATA, UDATA, UDATA, UDATA], // AA-UNITDATA-indication
+    [RETRV, RETRV, _____, _____, _____, _____, _____, _____], // AA-RETRIEVE-indication
+    [RCOMP, RCOMP, _____, _____, _____, _____, _____, _____], // AA-RETRIEVE_COMPLETE-indication
+    [_____, _____, _____, _____, _____, PFAIL, _____, _____], // MAAL-PROVING_UNSUCCESSFUL-response
+    [IGNOR, IGNOR, MREL3, MREL4, MREL5, MREL6, MREL4, MREL8], // MAAL-RELEASE-request
+    [OUTG_, OUTG_, OUTG_, OUTG_, OUTG_, OUTG_, OUTG7, OUTG8], // MAAL-LOCAL_PROCESSOR_OUTAGE-request
+    [RCVRD, RCVRD, RCVRD, RCVRD, RCVRD, RCVRD, _____, _____], // MAAL-LOCAL_PROCESSOR_RECOVERED-request
+    [FPROV, FPROV, FPROV, FPROV, FPROV, FPROV, FPROV, FPROV], // MAAL-FORCE_PROVING-request
+    [FEMER, FEMER, FEMER, FEMER, FEMER, FEMER, FEMER, FEMER], // MAAL-FORCE_EMERGENCY-request
+    [FCLR_, FCLR_, FCLR_, FCLR_, FCLR_, FCLR_, FCLR_, FCLR_], // MAAL-CLEAR_FORCE_MODES-request
+    [IGNOR, IGNOR, IGNOR, IGNOR, IGNOR, CONG6, CONG_, CONG_], // Local Congestion
+    [IGNOR, IGNOR, IGNOR, IGNOR, CEAS5, _____, CEAS_, CEAS_], // Local Congestion Ceased
+    [_____, _____, T1EX3, _____, _____, _____, _____, _____], // T1 expires
+    [_____, _____, T2EX3, T2EX4, T2EX5, T2EX6, T2EX7, _____], // T2 expires
+    [_____, _____, _____, _____, _____, T3PRV, _____, _____], // T3 expires and C1 > 0
+    [_____, _____, _____, _____, _____, T3END, _____, _____], // T3 expires and C1 = 0
 ];
 
 fn column(s: State) -> usize
@@ -573,7 +225,7 @@ fn row_of(row: u8) -> [u8; 8]
         rows::T2_EXPIRES => table[32],
         rows::T3_EXPIRES => table[33],
         rows::T3_EXPIRES_C1_0 => table[34],
-        _ => [ILLEGAL; 8],
+        _ => [_____; 8],
     }
 }
 

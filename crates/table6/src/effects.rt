@@ -207,33 +207,33 @@ pub fn does(code: u8, f: Facts) -> Met
     ensures { λ r. ⌜ r ≡ follow f (askAt code) ⌝ }
 {
     match code {
-        cells::MESSAGE => Met::Does(
+        cells::MESSG => Met::Does(
             Change(K, K, K, K, K, K, K, K, K, K),
             say2(DATA, REPORT_PDUT),
         ),
-        cells::EMERGENCY => Met::Does(Change(K, K, K, K, UPS_EM, K, K, K, K, K), say0()),
-        cells::EMERGENCY_CEASES => Met::Does(Change(K, K, K, K, UPS_NM, K, K, K, K, K), say0()),
-        cells::STOP_212 => Met::Does(
+        cells::EMERG => Met::Does(Change(K, K, K, K, UPS_EM, K, K, K, K, K), say0()),
+        cells::EMOFF => Met::Does(Change(K, K, K, K, UPS_NM, K, K, K, K, K), say0()),
+        cells::STOP3 => Met::Does(
             Change(TO_111, K, K, K, UPS_NM, OFF, OFF, K, K, K),
             say3(REPORT_OOS, RESET_T1, RESET_T2),
         ),
-        cells::STOP_222 => Met::Does(
+        cells::STOP4 => Met::Does(
             Change(TO_141, K, K, K, UPS_NM, K, OFF, K, K, K),
             say3(RELEASE_OOS, REPORT_OOS, RESET_T2),
         ),
-        cells::STOP_242 => Met::Does(
+        cells::STOP5 => Met::Does(
             Change(TO_141, K, K, K, UPS_NM, K, OFF, K, K, K),
             say2(REPORT_OOS, RESET_T2),
         ),
-        cells::STOP_2103 => Met::Does(
+        cells::STOP6 => Met::Does(
             Change(TO_141, K, K, K, UPS_NM, K, OFF, OFF, K, K),
             say5(RELEASE_OOS, REPORT_LR_OOS, STOP, RESET_T2, RESET_T3),
         ),
-        cells::STOP_2104 => Met::Does(
+        cells::STOP7 => Met::Does(
             Change(TO_141, K, K, K, UPS_NM, K, OFF, K, K, K),
             say3(RELEASE_OOS, REPORT_LR_OOS, RESET_T2),
         ),
-        cells::STOP_3105 => Met::Does(
+        cells::STOP8 => Met::Does(
             Change(TO_141, K, K, K, UPS_NM, K, K, K, K, K),
             say2(RELEASE_OOS, REPORT_LR_OOS),
         ),
@@ -241,7 +241,7 @@ pub fn does(code: u8, f: Facts) -> Met
             Change(TO_222, K, K, K, K, K, ON, K, K, K),
             say3(ESTABLISH_REQUEST, REPORT_ALN, SET_T2),
         ),
-        cells::RETRIEVE_BSNT => if f.bsnt {
+        cells::BSNT_ => if f.bsnt {
             Met::Does(Change(K, K, K, K, K, K, K, K, K, K), say1(BSNT))
         } else {
             Met::Does(
@@ -249,14 +249,14 @@ pub fn does(code: u8, f: Facts) -> Met
                 say1(BSNT_NOT_RETRIEVABLE),
             )
         },
-        cells::RETRIEVAL => Met::Does(Change(K, K, K, K, K, K, K, K, K, K), say1(RETRIEVE_REQUEST)),
-        cells::IGNORED => Met::Does(Change(K, K, K, K, K, K, K, K, K, K), say0()),
-        cells::ESTABLISH_111 => if f.lpo {
+        cells::FSNC_ => Met::Does(Change(K, K, K, K, K, K, K, K, K, K), say1(RETRIEVE_REQUEST)),
+        cells::IGNOR => Met::Does(Change(K, K, K, K, K, K, K, K, K, K), say0()),
+        cells::EIND1 => if f.lpo {
             Met::Does(Change(K, K, K, K, K, K, K, K, K, K), say1(RELEASE_PO))
         } else {
             Met::Does(Change(K, K, K, K, K, K, K, K, K, K), say1(RELEASE_OOS))
         },
-        cells::ESTABLISH_212 => if f.uu {
+        cells::EIND3 => if f.uu {
             Met::Does(
                 Change(TO_2103, OFF, K, K, K, OFF, K, ON, DECIDED, K),
                 say4(ESTABLISH_RESPONSE, PROVE, RESET_T1, SET_T3),
@@ -267,7 +267,7 @@ pub fn does(code: u8, f: Facts) -> Met
                 say2(RELEASE_PE, REPORT_LR_PE),
             )
         },
-        cells::CONFIRM_222 => if f.uu {
+        cells::ECNF4 => if f.uu {
             Met::Does(
                 Change(TO_2103, OFF, K, K, K, K, K, ON, DECIDED, K),
                 say2(PROVE, SET_T3),
@@ -278,7 +278,7 @@ pub fn does(code: u8, f: Facts) -> Met
                 say2(RELEASE_PE, REPORT_LR_PE),
             )
         },
-        cells::RELEASED_BY => if f.user {
+        cells::RIND_ => if f.user {
             Met::Does(
                 Change(TO_212, K, K, K, K, ON, K, K, K, K),
                 say2(REPORT_RR_UU, SET_T1),
@@ -289,7 +289,7 @@ pub fn does(code: u8, f: Facts) -> Met
                 say2(REPORT_SR, SET_T1),
             )
         },
-        cells::RELEASED_BY_2103 => if f.user {
+        cells::RIND6 => if f.user {
             Met::Does(
                 Change(TO_212, K, K, K, K, ON, K, OFF, K, K),
                 say4(REPORT_RR_UU, STOP, RESET_T3, SET_T1),
@@ -300,7 +300,7 @@ pub fn does(code: u8, f: Facts) -> Met
                 say4(REPORT_SR, STOP, RESET_T3, SET_T1),
             )
         },
-        cells::RELEASED_BY_3105 => if f.user {
+        cells::RIND8 => if f.user {
             Met::Does(
                 Change(TO_111, K, K, K, UPS_NM, K, K, K, K, K),
                 say2(OUT, REPORT_RR_UU),
@@ -311,54 +311,48 @@ pub fn does(code: u8, f: Facts) -> Met
                 say2(OUT, REPORT_SR_OOS),
             )
         },
-        cells::RELEASE_CONFIRMED_141 => Met::Does(
-            Change(TO_111, K, K, K, K, K, K, K, K, K),
-            say0(),
-        ),
-        cells::RELEASE_CONFIRMED_242 => Met::Does(
-            Change(TO_212, K, K, K, K, ON, K, K, K, K),
-            say1(SET_T1),
-        ),
-        cells::INS_2103 => Met::Does(Change(K, ON, K, K, K, K, K, K, K, TAKEN), say0()),
-        cells::INS_2104 => Met::Does(
+        cells::RCNF2 => Met::Does(Change(TO_111, K, K, K, K, K, K, K, K, K), say0()),
+        cells::RCNF5 => Met::Does(Change(TO_212, K, K, K, K, ON, K, K, K, K), say1(SET_T1)),
+        cells::INS_6 => Met::Does(Change(K, ON, K, K, K, K, K, K, K, TAKEN), say0()),
+        cells::INS_7 => Met::Does(
             Change(TO_3105, K, K, K, K, K, OFF, K, K, TAKEN),
             say3(IN, REPORT_INS, RESET_T2),
         ),
-        cells::UNIT_3105 => Met::Does(
+        cells::UNIT8 => Met::Does(
             Change(TO_141, K, K, K, UPS_NM, K, K, K, K, TAKEN),
             say3(RELEASE_PE, OUT, REPORT_LR_OOS_PE),
         ),
-        cells::UNIT_TAKEN => Met::Does(Change(K, K, K, K, K, K, K, K, K, TAKEN), say0()),
-        cells::LONG_2103 => Met::Does(
+        cells::UNIT_ => Met::Does(Change(K, K, K, K, K, K, K, K, K, TAKEN), say0()),
+        cells::LONG6 => Met::Does(
             Change(TO_242, K, K, K, K, K, K, OFF, K, TAKEN),
             say4(REPORT_LR_PE, RELEASE_PE, STOP, RESET_T3),
         ),
-        cells::LONG_2104 => Met::Does(
+        cells::LONG7 => Met::Does(
             Change(TO_242, K, K, K, K, K, K, K, K, TAKEN),
             say2(RELEASE_PE, REPORT_LR_PE),
         ),
-        cells::LONG_3105 => Met::Does(
+        cells::LONG8 => Met::Does(
             Change(K, K, K, K, K, K, K, K, K, TAKEN),
             say1(RECEIVED_MESSAGE),
         ),
-        cells::RESYNC_2103 => Met::Does(
+        cells::RSYN6 => Met::Does(
             Change(TO_242, K, K, K, K, K, K, OFF, K, K),
             say4(REPORT_LR_PE, RELEASE_PE, STOP, RESET_T3),
         ),
-        cells::RESYNC_2104 => Met::Does(
+        cells::RSYN7 => Met::Does(
             Change(TO_242, K, K, K, K, K, K, K, K, K),
             say2(REPORT_LR_PE, RELEASE_PE),
         ),
-        cells::RESYNC_3105 => Met::Does(
+        cells::RSYN8 => Met::Does(
             Change(TO_141, K, K, K, UPS_NM, K, K, K, K, K),
             say3(RELEASE_PE, OUT, REPORT_LR_OOS_PE),
         ),
-        cells::RECOVER => Met::Does(
+        cells::RECOV => Met::Does(
             Change(K, K, K, K, K, K, K, K, K, K),
             say2(RECOVER_RESPONSE, REPORT_SREC),
         ),
-        cells::UNITDATA => Met::Does(Change(K, K, K, K, K, K, K, K, K, K), say1(REPORT_UDR)),
-        cells::RETRIEVE => if f.long {
+        cells::UDATA => Met::Does(Change(K, K, K, K, K, K, K, K, K, K), say1(REPORT_UDR)),
+        cells::RETRV => if f.long {
             Met::Does(
                 Change(K, K, K, K, K, K, K, K, K, K),
                 say1(RETRIEVED_MESSAGES),
@@ -366,89 +360,89 @@ pub fn does(code: u8, f: Facts) -> Met
         } else {
             Met::Does(Change(K, K, K, K, K, K, K, K, K, K), say0())
         },
-        cells::RETRIEVE_COMPLETE => Met::Does(
+        cells::RCOMP => Met::Does(
             Change(K, K, K, K, K, K, K, K, K, K),
             say1(RETRIEVAL_COMPLETE),
         ),
-        cells::PROVING_UNSUCCESSFUL => Met::Does(
+        cells::PFAIL => Met::Does(
             Change(TO_242, K, K, K, K, K, K, OFF, K, K),
             say2(RELEASE_PNS, RESET_T3),
         ),
-        cells::RELEASE_212 => Met::Does(
+        cells::MREL3 => Met::Does(
             Change(TO_111, K, K, K, UPS_NM, OFF, OFF, K, K, K),
             say3(OUT, RESET_T1, RESET_T2),
         ),
-        cells::RELEASE_222 => Met::Does(
+        cells::MREL4 => Met::Does(
             Change(TO_141, K, K, K, UPS_NM, K, OFF, K, K, K),
             say3(RELEASE_MI, OUT, RESET_T2),
         ),
-        cells::RELEASE_242 => Met::Does(
+        cells::MREL5 => Met::Does(
             Change(TO_141, K, K, K, UPS_NM, K, OFF, K, K, K),
             say2(OUT, RESET_T2),
         ),
-        cells::RELEASE_2103 => Met::Does(
+        cells::MREL6 => Met::Does(
             Change(TO_141, K, K, K, UPS_NM, K, OFF, OFF, K, K),
             say4(RELEASE_MI, OUT, RESET_T2, RESET_T3),
         ),
-        cells::RELEASE_3105 => Met::Does(
+        cells::MREL8 => Met::Does(
             Change(TO_141, K, K, K, UPS_NM, K, K, K, K, K),
             say2(RELEASE_MI, OUT),
         ),
-        cells::OUTAGE => Met::Does(Change(K, K, ON, K, K, K, K, K, K, K), say0()),
-        cells::OUTAGE_2104 => Met::Does(
+        cells::OUTG_ => Met::Does(Change(K, K, ON, K, K, K, K, K, K, K), say0()),
+        cells::OUTG7 => Met::Does(
             Change(TO_141, K, ON, K, UPS_NM, K, OFF, K, K, K),
             say3(RELEASE_PO, OUT, RESET_T2),
         ),
-        cells::OUTAGE_3105 => Met::Does(
+        cells::OUTG8 => Met::Does(
             Change(TO_141, K, ON, K, UPS_NM, K, K, K, K, K),
             say2(RELEASE_PO, OUT),
         ),
-        cells::RECOVERED => Met::Does(Change(K, K, OFF, K, K, K, K, K, K, K), say0()),
-        cells::FORCE_PROVING => Met::Does(Change(K, K, K, MPS_NM, K, K, K, K, K, K), say0()),
-        cells::FORCE_EMERGENCY => Met::Does(Change(K, K, K, MPS_EM, K, K, K, K, K, K), say0()),
-        cells::CLEAR_FORCE_MODES => Met::Does(Change(K, K, K, MPS_N, K, K, K, K, K, K), say0()),
-        cells::CONGESTION_2103 => Met::Does(
+        cells::RCVRD => Met::Does(Change(K, K, OFF, K, K, K, K, K, K, K), say0()),
+        cells::FPROV => Met::Does(Change(K, K, K, MPS_NM, K, K, K, K, K, K), say0()),
+        cells::FEMER => Met::Does(Change(K, K, K, MPS_EM, K, K, K, K, K, K), say0()),
+        cells::FCLR_ => Met::Does(Change(K, K, K, MPS_N, K, K, K, K, K, K), say0()),
+        cells::CONG6 => Met::Does(
             Change(TO_242, K, K, K, K, K, K, OFF, K, K),
             say4(RELEASE_PNS, REPORT_LR_CD, STOP, RESET_T3),
         ),
-        cells::CONGESTION => Met::Does(
+        cells::CONG_ => Met::Does(
             Change(K, K, K, K, K, K, K, K, K, K),
             say2(LINK_CONGESTED, REPORT_CD),
         ),
-        cells::CEASED_242 => Met::Does(Change(K, K, K, K, K, K, K, K, K, K), say1(REPORT_CC)),
-        cells::CEASED => Met::Does(
+        cells::CEAS5 => Met::Does(Change(K, K, K, K, K, K, K, K, K, K), say1(REPORT_CC)),
+        cells::CEAS_ => Met::Does(
             Change(K, K, K, K, K, K, K, K, K, K),
             say2(CONGESTION_CEASED, REPORT_CC),
         ),
-        cells::T1_212 => Met::Does(
+        cells::T1EX3 => Met::Does(
             Change(TO_222, K, K, K, K, OFF, K, K, K, K),
             say1(ESTABLISH_REQUEST),
         ),
-        cells::T2_212 => Met::Does(
+        cells::T2EX3 => Met::Does(
             Change(TO_111, K, K, K, UPS_NM, OFF, OFF, K, K, K),
             say3(OUT, REPORT_LR_OOS_ANS, RESET_T1),
         ),
-        cells::T2_222 => Met::Does(
+        cells::T2EX4 => Met::Does(
             Change(TO_141, K, K, K, UPS_NM, K, OFF, K, K, K),
             say3(RELEASE_ANS, OUT, REPORT_LR_OOS_ANS),
         ),
-        cells::T2_242 => Met::Does(
+        cells::T2EX5 => Met::Does(
             Change(TO_141, K, K, K, UPS_NM, K, OFF, K, K, K),
             say2(OUT, REPORT_OOS_ANS),
         ),
-        cells::T2_2103 => Met::Does(
+        cells::T2EX6 => Met::Does(
             Change(TO_141, K, K, K, UPS_NM, K, OFF, OFF, K, K),
             say5(REPORT_LR_OOS_ANS, STOP, OUT, RELEASE_ANS, RESET_T3),
         ),
-        cells::T2_2104 => Met::Does(
+        cells::T2EX7 => Met::Does(
             Change(TO_141, K, K, K, UPS_NM, K, OFF, K, K, K),
             say3(REPORT_LR_OOS_ANS, OUT, RELEASE_ANS),
         ),
-        cells::T3_PROVING => Met::Does(
+        cells::T3PRV => Met::Does(
             Change(K, K, K, K, K, K, K, ON, LESS, K),
             say2(UNIT_NM, SET_T3),
         ),
-        cells::T3_DONE => if f.lpo {
+        cells::T3END => if f.lpo {
             Met::Does(
                 Change(TO_141, K, K, K, UPS_NM, K, OFF, OFF, K, K),
                 say5(RELEASE_PO, OUT, REPORT_LR_OOS, STOP, RESET_T2),

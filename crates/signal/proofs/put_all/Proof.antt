@@ -6,12 +6,13 @@ use native.Mathlib.Omega.{arith}
 use lib.ListN.{length, take, drop, getD, length-take, length-drop}
 use lib.Seq.{take-length}
 use borrow.Author.Needs.{needs}
+use Rattle.table6.specs.Stored.{wordAt}
 use Rattle.link.specs.Signal.{bare}
-use Rattle.link.specs.Stored.{signalsOf}
+use Rattle.link.specs.Stored.{meantBy, signalsOf}
 use Rattle.link.proofs.Spoken.{counted, placed}
 use Rattle.octet.specs.Octets.{over}
 use Rattle.event.specs.Frame.{linkAt, messageOf}
-use Rattle.signal.specs.SignalRecord.{joined, bodyOf, told}
+use Rattle.signal.specs.SignalRecord.{joined, bodyOf}
 use Rattle.octet.proofs.Over.{length-over}
 use Rattle.signal.proofs.SignalRecord.{next-word, signal-length, reached, joined-le, next-fits, turn}
 use Rattle.signal.proofs.put_all.Statement.{statement}
@@ -36,14 +37,14 @@ left c = omega (arith, c .before .before .before .count .ensures)
 
 -- and its word is what the rest ends with
 spoken : (c : tie.In-loop Inv-loop μ-loop) →
-    told (c .before .before .before .before .before .before .args .said) (c .before .loop .rest % 256) ≡ getD (signalsOf (c .before .before .before .before .before .before .args .said)) (c .before .loop .j) (bare 0)
+    meantBy (c .before .before .before .before .before .before .args .said) (wordAt (c .before .loop .rest % 256)) ≡ getD (signalsOf (c .before .before .before .before .before .before .args .said)) (c .before .loop .j) (bare 0)
 spoken c =
     let o = c .before .before .before .before .before .before .args .said in
-    ap (λ (n : ℕ). told o (n % 256)) (c .before .loop .inv .2) ∙ placed o (c .before .loop .j) (bare 0) (omega (arith, left c, counted o))
+    ap (λ (n : ℕ). meantBy o (wordAt (n % 256))) (c .before .loop .inv .2) ∙ placed o (c .before .loop .j) (bare 0) (omega (arith, left c, counted o))
 
 -- it fits behind those before it
 fits : (c : tie.In-loop Inv-loop μ-loop) →
-    c .before .loop .at + (12 + length (bodyOf (told (c .before .before .before .before .before .before .args .said) (c .before .loop .rest % 256) .carries) (messageOf (c .before .before .before .before .before .before .args .e .now)))) ≤ length (c .before .before .before .before .before .before .args .out .now)
+    c .before .loop .at + (12 + length (bodyOf (meantBy (c .before .before .before .before .before .before .args .said) (wordAt (c .before .loop .rest % 256)) .carries) (messageOf (c .before .before .before .before .before .before .args .e .now)))) ≤ length (c .before .before .before .before .before .before .args .out .now)
 fits c =
     let a = c .before .before .before .before .before .before .args in
     let h = next-fits (linkAt (a .e .now)) (messageOf (a .e .now)) (signalsOf (a .said)) (c .before .loop .j) (bare 0) (left c) in

@@ -4,8 +4,10 @@ use native.Mathlib.Omega.{arith}
 use mathlib.Core.Path.{_∙_}
 use mathlib.Core.List.{List}
 use Prim.Native.Nat.{ℕ}
+use Rattle.table6.specs.Stored.{wordAt}
+use Rattle.link.specs.Stored.{meantBy}
 use Rattle.event.specs.Frame.{linkAt, messageOf}
-use Rattle.signal.specs.SignalRecord.{signalOctets, told, fromCode, Put, PutCode}
+use Rattle.signal.specs.SignalRecord.{signalOctets, fromCode, Put, PutCode}
 use Rattle.signal.proofs.SignalRecord.{fixed-known, with-front}
 use Rattle.signal.proofs.put_signal.Statement.{statement}
 use Rattle.signal.proofs.put_signal.Tie as tie
@@ -14,10 +16,10 @@ use Rattle.signal.proofs.put_signal.Tie as tie
 fronted : (c : tie.After-slice-known2) {d : List ℕ} {r : ℕ} →
     let a = c .before .before .before .before .before .before .before .before .before .args in
     let m = messageOf (a .e .now) in
-    PutCode (fromCode m (told (a .said) (a .w))) (c .before .before .put .last .0) r d → Put (signalOctets (linkAt (a .e .now)) m (told (a .said) (a .w))) (a .out .now) r d
+    PutCode (fromCode m (meantBy (a .said) (wordAt (a .w)))) (c .before .before .put .last .0) r d → Put (signalOctets (linkAt (a .e .now)) m (meantBy (a .said) (wordAt (a .w)))) (a .out .now) r d
 fronted c p =
     let a = c .before .before .before .before .before .before .before .before .before .args in
-    with-front (a .e .now) (messageOf (a .e .now)) (told (a .said) (a .w)) (omega (arith, c .before .before .before .before .before .shared-slice-known3 .given 3)) (c .before .before .put .ensures) p
+    with-front (a .e .now) (messageOf (a .e .now)) (meantBy (a .said) (wordAt (a .w))) (omega (arith, c .before .before .before .before .before .shared-slice-known3 .given 3)) (c .before .before .put .ensures) p
 
 array-read-t9 : tie.Need-array-read-t9
 array-read-t9 c = search needs
