@@ -10,7 +10,7 @@ use Rattle.unit.specs.declared.Ups.{Ups}
 use Rattle.unit.specs.Proving.{mpsCode, upsCode}
 use Rattle.table6.specs.declared.State.{State}
 use Rattle.link.specs.declared.Link.{Link}
-use Rattle.link.specs.Kept.{NoneIsZero}
+use Rattle.link.specs.Effect.{NoneIsZero}
 use Rattle.record.specs.declared.Slot.{Slot}
 use Rattle.record.specs.declared.SomeState.{SomeState}
 use Rattle.record.specs.declared.SomeMps.{SomeMps}
