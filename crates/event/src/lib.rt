@@ -7,13 +7,12 @@ use octet::wide;
 use table6::events;
 use unit::Field;
 ghost use mathlib.Core.Path.{_≡_};
-ghost use mathlib.Core.Bool.{cond, not, _||_};
+ghost use mathlib.Core.Bool.{not, _||_};
 ghost use Prim.Native.Nat.{_+_, _≤_};
 ghost use lib.Dec.{eqb, leb};
 ghost use lib.ListN.{length};
-ghost use Rattle.event.specs.declared.Reading.{Reading};
 ghost use Rattle.event.specs.Frame.{headOctets, linkAt, paramAt, numberAt, lengthAt, messageOf};
-ghost use Rattle.event.specs.EventRecord.{framed, eventOf, isStatus, isZero, fieldsOf, readingOf};
+ghost use Rattle.event.specs.EventRecord.{framed, eventOf, isStatus, isZero, reading, fitting, fieldsOf, readingOf};
 
 // The octets of a record before its message, and the most of a message.
 pub const HEAD: usize = 12;
@@ -133,7 +132,7 @@ pub enum Reading {
 }
 
 fn fits(misfit: bool) -> Reading
-    ensures { λ r. ⌜ r ≡ cond misfit Reading.Misfit Reading.Fits ⌝ }
+    ensures { λ r. ⌜ reading r ≡ fitting misfit ⌝ }
 {
     if misfit {
         Reading::Misfit
@@ -161,7 +160,7 @@ fn numbered(e: &[u8]) -> bool
 // The fields of a code that carries none.
 fn bare(e: &[u8]) -> Reading
     requires { ⌜ (headOctets ≤ length (now e)) × (headOctets + lengthAt (now e) ≡ length (now e)) ⌝ }
-    ensures { λ r. ⌜ r ≡ cond (leb 1 (lengthAt (now (e .entry))) || not (isZero (numberAt (now (e .entry)))) || leb 1 (paramAt (now (e .entry)))) Reading.Misfit Reading.Fits ⌝ }
+    ensures { λ r. ⌜ reading r ≡ fitting (leb 1 (lengthAt (now (e .entry))) || not (isZero (numberAt (now (e .entry)))) || leb 1 (paramAt (now (e .entry)))) ⌝ }
 {
     fits(lengthy(e) | numbered(e) | (1 <= e[5]))
 }
@@ -169,7 +168,7 @@ fn bare(e: &[u8]) -> Reading
 // Checks 3 and 4 of a sound frame: the code, and that no field is set that it doesn't carry, none out of range, and no user's message that would be taken for a unit.
 fn fields(e: &[u8]) -> Reading
     requires { ⌜ (headOctets ≤ length (now e)) × (headOctets + lengthAt (now e) ≡ length (now e)) ⌝ }
-    ensures { λ r. ⌜ r ≡ fieldsOf (now (e .entry)) ⌝ }
+    ensures { λ r. ⌜ reading r ≡ fieldsOf (now (e .entry)) ⌝ }
 {
     match e[4] {
         events::MESSAGE_FOR_TRANSMISSION => fits(numbered(e) | (1 <= e[5]) | (e.len() <= HEAD + 4)),
@@ -211,7 +210,7 @@ fn fields(e: &[u8]) -> Reading
 }
 
 pub fn read_event(e: &[u8]) -> Reading
-    ensures { λ r. ⌜ r ≡ readingOf (now (e .entry)) ⌝ }
+    ensures { λ r. ⌜ reading r ≡ readingOf (now (e .entry)) ⌝ }
 {
     if framed(e) {
         fields(e)
