@@ -12,6 +12,7 @@ ghost use mathlib.Core.Path.{_≡_};
 ghost use mathlib.Core.List.{_∷_, [], _++_};
 ghost use Prim.Native.Nat.{_+_, _*_, _≤_};
 ghost use lib.ListN.{length};
+ghost use Rattle.record.specs.LinkRecord.{found};
 ghost use Rattle.event.specs.Frame.{headOctets};
 ghost use Rattle.lines.specs.Text.{decimal, Added};
 ghost use Rattle.lines.specs.Lines.{firstRecord, shown, eventLine, dotted, messageText, signalLine, stateName, slotText, linkLine};
@@ -123,7 +124,7 @@ fn add_state(text: &mut [u8], a: usize, s: State) -> usize
 // Adds a link's state and C1, or what stands for an ill-formed record.
 fn add_slot(text: &mut [u8], a: usize, slot: Slot) -> usize
     requires { ⌜ a + 32 ≤ length (now text) ⌝ }
-    ensures { λ r. ⌜ Added (slotText slot) (now (text .entry)) a r (now (text .exit)) × (r ≤ a + 32) ⌝ }
+    ensures { λ r. ⌜ Added (slotText (found slot)) (now (text .entry)) a r (now (text .exit)) × (r ≤ a + 32) ⌝ }
 {
     match slot {
         Slot::IllFormed => add(text, a, b"? 0\n"),

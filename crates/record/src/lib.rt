@@ -10,7 +10,8 @@ use unit::Ups;
 ghost use mathlib.Core.Path.{_≡_};
 ghost use lib.ListN.{length};
 ghost use Rattle.octet.specs.Octets.{at, bit};
-ghost use Rattle.record.specs.LinkRecord.{stateCode, stateAt, someState, mpsAt, someMps, upsAt, octetsOf, linkOf, restFormed, slotOf};
+ghost use Rattle.record.specs.LinkRecord.{stateCode, stateAt, mpsAt, upsAt, octetsOf, linkOf, slotOf, found};
+ghost use Rattle.record.specs.Decoded.{someState, someMps, restFormed};
 
 // The octets of a link's record.
 pub const RECORD: usize = 16;
@@ -163,7 +164,7 @@ pub enum Slot {
 }
 
 pub fn read_link(r: &[u8]) -> Slot
-    ensures { λ s. ⌜ s ≡ slotOf (now (r .entry)) ⌝ }
+    ensures { λ s. ⌜ found s ≡ slotOf (now (r .entry)) ⌝ }
 {
     if r.len() != RECORD {
         return Slot::IllFormed;

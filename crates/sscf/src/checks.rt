@@ -9,7 +9,7 @@ use record::Slot;
 ghost use mathlib.Core.Path.{_≡_};
 ghost use Prim.Native.Nat.{_≤_, _<_};
 ghost use lib.ListN.{length, drop};
-ghost use Rattle.record.specs.LinkRecord.{slotOf};
+ghost use Rattle.record.specs.LinkRecord.{slotOf, found};
 ghost use Rattle.event.specs.Frame.{headOctets};
 ghost use Rattle.sscf.specs.Checks.{number};
 ghost use Rattle.sscf.specs.Step.{badTable, records, recordAt, idle, checks};
@@ -61,7 +61,7 @@ pub fn bad_table(t: &[u8]) -> bool
 // The record of link k.
 fn slot_at(t: &[u8], k: usize) -> Slot
     requires { ⌜ k < records (now t) ⌝ }
-    ensures { λ r. ⌜ r ≡ slotOf (recordAt (now (t .entry)) k) ⌝ }
+    ensures { λ r. ⌜ found r ≡ slotOf (recordAt (now (t .entry)) k) ⌝ }
 {
     let start = RECORD * k;
     let end = start + RECORD;
