@@ -40,7 +40,8 @@ ghost use Rattle.link.specs.Signal.{none, signal};
 ghost use Rattle.link.specs.Stored.{signalsOf};
 ghost use Rattle.octet.specs.Octets.{putAt};
 ghost use Rattle.event.specs.Frame.{headOctets, messageOctets, linkAt, lengthAt, messageOf};
-ghost use Rattle.signal.specs.SignalRecord.{bodyOf, signalOctets, joined, Put, Whole, told, fromCode, PutCode, fixedWords, fixedAt};
+ghost use Rattle.signal.specs.SignalRecord.{bodyOf, signalOctets, joined, Put};
+ghost use Rattle.signal.specs.Writing.{Whole, told, fromCode, PutCode, fixedWords, fixedAt};
 
 // The mark of a signal.
 pub const SG: [u8; 2] = *b"SG";

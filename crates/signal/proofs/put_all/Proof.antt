@@ -11,7 +11,8 @@ use Rattle.link.specs.Stored.{signalsOf}
 use Rattle.link.proofs.Spoken.{counted, placed}
 use Rattle.octet.specs.Octets.{over}
 use Rattle.event.specs.Frame.{linkAt, messageOf}
-use Rattle.signal.specs.SignalRecord.{joined, bodyOf, told}
+use Rattle.signal.specs.SignalRecord.{joined, bodyOf}
+use Rattle.signal.specs.Writing.{told}
 use Rattle.octet.proofs.Over.{length-over}
 use Rattle.signal.proofs.SignalRecord.{next-word, signal-length, reached, joined-le, next-fits, turn}
 use Rattle.signal.proofs.put_all.Statement.{statement}

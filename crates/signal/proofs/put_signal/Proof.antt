@@ -5,7 +5,8 @@ use mathlib.Core.Path.{_∙_}
 use mathlib.Core.List.{List}
 use Prim.Native.Nat.{ℕ}
 use Rattle.event.specs.Frame.{linkAt, messageOf}
-use Rattle.signal.specs.SignalRecord.{signalOctets, told, fromCode, Put, PutCode}
+use Rattle.signal.specs.SignalRecord.{signalOctets, Put}
+use Rattle.signal.specs.Writing.{told, fromCode, PutCode}
 use Rattle.signal.proofs.SignalRecord.{fixed-known, with-front}
 use Rattle.signal.proofs.put_signal.Statement.{statement}
 use Rattle.signal.proofs.put_signal.Tie as tie
