@@ -17,6 +17,9 @@ ghost use Rattle.event.specs.Frame.{headOctets};
 ghost use Rattle.lines.specs.Text.{decimal, Added};
 ghost use Rattle.lines.specs.Lines.{firstRecord, shown, eventLine, dotted, messageText, signalLine, stateName, slotText, linkLine};
 
+// The refusal of an event whose frame is broken.
+pub const BAD_FRAME: u32 = 2;
+
 const SPACE: u8 = b' ';
 
 const NEWLINE: u8 = b'\n';
@@ -27,7 +30,7 @@ const DOT: u8 = b'.';
 fn shown_as(refusal: u32, n: u16) -> u16
     ensures { λ r. ⌜ r ≡ shown refusal n ⌝ }
 {
-    if refusal == 2 { 0 } else { n }
+    if refusal == BAD_FRAME { 0 } else { n }
 }
 
 // The line of an event whose record begins the octets e, and of what the step answered.

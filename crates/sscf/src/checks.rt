@@ -6,6 +6,7 @@ use link::Reply;
 use link::Said;
 use record::RECORD;
 use record::Slot;
+use table6::events;
 ghost use mathlib.Core.Path.{_≡_};
 ghost use Prim.Native.Nat.{_≤_, _<_};
 ghost use lib.ListN.{length, drop};
@@ -72,7 +73,9 @@ fn slot_at(t: &[u8], k: usize) -> Slot
 fn idle(l: Link, code: u8) -> bool
     ensures { λ r. ⌜ r ≡ idle l code ⌝ }
 {
-    ((code == 48) && !l.t1) || ((code == 49) && !l.t2) || ((code == 50) && !l.t3)
+    ((code == events::T1_EXPIRED) && !l.t1)
+        || ((code == events::T2_EXPIRED) && !l.t2)
+        || ((code == events::T3_EXPIRED) && !l.t3)
 }
 
 // What the checks come to: a refusal, or the link, its record after the event and what is said.
