@@ -20,7 +20,7 @@ pub const HEAD: usize = 12;
 pub const MESSAGE: u16 = 4096;
 
 // The mark of an event.
-pub const EV: [u8; 2] = *b"EV";
+const EV: [u8; 2] = *b"EV";
 
 // At least twelve octets, the mark, octet 9 zero, and a length that is that of what follows.
 fn framed(e: &[u8]) -> bool

@@ -1,5 +1,5 @@
 // The lines of document 01's trace, as text in a buffer.
-pub mod text;
+mod text;
 
 use event::HEAD;
 use event::message;

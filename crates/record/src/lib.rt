@@ -17,7 +17,7 @@ ghost use Rattle.record.specs.Decoded.{someState, someMps, restFormed};
 pub const RECORD: usize = 16;
 
 // The mark of a link's record.
-pub const LK: [u8; 2] = *b"LK";
+const LK: [u8; 2] = *b"LK";
 
 fn bit_of(b: bool) -> u8
     ensures { λ r. ⌜ r ≡ bit b ⌝ }

@@ -44,7 +44,7 @@ ghost use Rattle.signal.specs.SignalRecord.{bodyOf, signalOctets, joined
 ghost use Rattle.signal.specs.Writing.{Whole, told, fromCode, PutCode, fixedWords, fixedAt};
 
 // The mark of a signal.
-pub const SG: [u8; 2] = *b"SG";
+const SG: [u8; 2] = *b"SG";
 
 // The octet of a signal that is its code, behind the mark and the link's number.
 const CODE: usize = 4;

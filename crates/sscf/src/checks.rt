@@ -47,9 +47,9 @@ impl Refusal {
 }
 
 // The octets of the longest table, and the least of an output.
-pub const TABLE: usize = 4096;
+const TABLE: usize = 4096;
 
-pub const ROOM: usize = 4192;
+const ROOM: usize = 4192;
 
 // Check 1.
 pub fn bad_table(t: &[u8]) -> bool
