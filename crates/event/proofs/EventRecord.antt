@@ -9,6 +9,8 @@ use lib.ListN.{length}
 use borrow.Author.Tests.{leb-false, eqb-true, ne-eqb, not-false, not-true}
 use Rattle.unit.specs.declared.Arrived.{Arrived}
 use Rattle.unit.specs.Unit.{arrived}
+use Rattle.unit.specs.Answered.{Answered, refused, accepted}
+use Rattle.table6.specs.EventCodes.{MESSAGE-FOR-TRANSMISSION, EMERGENCY, EMERGENCY-CEASES, STOP, START, RETRIEVE-BSNT, RETRIEVAL-REQUEST-AND-FSNC, FLUSH-BUFFERS, CONTINUE, ESTABLISH-indication, ESTABLISH-confirm, RELEASE-indication, RELEASE-confirm, DATA-indication, RESYNC-indication, RECOVER-indication, UNITDATA-indication, RETRIEVE-indication, RETRIEVE-COMPLETE-indication, PROVING-UNSUCCESSFUL, RELEASE, OUTAGE, RECOVERED, FORCE-PROVING, FORCE-EMERGENCY, CLEAR-FORCE-MODES, CONGESTION, CONGESTION-CEASED, T1-expired, T2-expired, T3-expired}
 use Rattle.table6.proofs.Every.{left, right}
 use Rattle.link.specs.declared.Num.{Num}
 use Rattle.link.specs.declared.Event.{Event}
@@ -16,7 +18,7 @@ use Rattle.link.specs.Signal.{num, none}
 use Rattle.event.specs.declared.Reading.{Reading}
 use Rattle.octet.specs.Octets.{at}
 use Rattle.event.specs.Frame.{EV, lengthAt, linkAt, numberAt, messageOf, codeAt, paramAt, written}
-use Rattle.event.specs.EventRecord.{framed, Code, codes, Coded, among, Each, codedAt, codedIn, said, isStatus, hasMessage, hasNumber, hasParameter, isZero, misfit, fitting, fieldsOf, readingOf, Holds, Carried, carrying, carried, Rewritten, Reread}
+use Rattle.event.specs.EventRecord.{framed, events, Coded, among, Each, codedAt, codedIn, said, isStatus, hasMessage, hasNumber, hasField, hasParameter, isZero, misfit, reading, fitting, saying, fieldsOf, readingOf, Holds, Carried, carrying, carried, Rewritten, Reread}
 use Rattle.event.proofs.Frame.{frame-rewritten, frame-reread, two-back}
 
 -- WHAT A READING TELLS of the tests in it: whether the frame is sound, what the code says, whether a field misfits
@@ -31,7 +33,21 @@ Told Reading.UnknownCode f x m = (f ≡ true) × (coded x ≡ false)
 Told Reading.Misfit f x m = (f ≡ true) × (coded x ≡ true) × (m ≡ true)
 Told Reading.Fits f x m = (f ≡ true) × (coded x ≡ true) × (m ≡ false)
 
-tells : (f : Bool) (x : Coded) (m : Bool) → Told (cond f (fitting x m) Reading.BadFrame) f x m
+-- the reading of an answer
+abbrev back : Answered (Unit {0}) → Reading
+back (refused n) = cond (eqb n 2) Reading.BadFrame (cond (eqb n 3) Reading.UnknownCode Reading.Misfit)
+back (accepted u) = Reading.Fits
+
+back-is : (r : Reading) → back (reading r) ≡ r
+back-is Reading.BadFrame = refl
+back-is Reading.UnknownCode = refl
+back-is Reading.Misfit = refl
+back-is Reading.Fits = refl
+
+pub one-reading : (r s : Reading) → reading r ≡ reading s → r ≡ s
+one-reading r s h = sym (back-is r) ∙ ap back h ∙ back-is s
+
+tells : (f : Bool) (x : Coded) (m : Bool) → Told (back (cond f (saying x m) (refused 2))) f x m
 tells false x m = refl
 tells true Coded.Unknown m = (refl, refl)
 tells true (Coded.Of x) true = (refl, refl, refl)
@@ -40,9 +56,10 @@ tells true (Coded.Of x) false = (refl, refl, refl)
 abbrev pub ToldOf : List ℕ → Reading → Type 0
 ToldOf e r = Told r (framed e) (codedIn e) (misfit (codeAt e) (paramAt e) (numberAt e) (lengthAt e))
 
-pub reading-tells : (e : List ℕ) → ToldOf e (readingOf e)
+pub reading-tells : (e : List ℕ) (r : Reading) → reading r ≡ readingOf e → ToldOf e r
 unfolding readingOf fieldsOf
-reading-tells e = tells (framed e) (codedIn e) (misfit (codeAt e) (paramAt e) (numberAt e) (lengthAt e))
+reading-tells e r h =
+    subst (ToldOf e) (ap back (sym h) ∙ back-is r) (tells (framed e) (codedIn e) (misfit (codeAt e) (paramAt e) (numberAt e) (lengthAt e)))
 
 -- WHAT THE FIELDS COME TO, code by code
 
@@ -50,19 +67,19 @@ pub neither : (a b : Bool) → a || b ≡ false → (a ≡ false) × (b ≡ fals
 neither true b h = absurd (true≢false h)
 neither false b h = (refl, h)
 
-fitted : (x : Coded) (m : Bool) → coded x ≡ true → cond m Reading.Misfit Reading.Fits ≡ fitting x m
+fitted : (x : Coded) (m : Bool) → coded x ≡ true → fitting m ≡ saying x m
 fitted Coded.Unknown m h = absurd (true≢false (sym h))
 fitted (Coded.Of x) m h = refl
 
 pub at-code : (e : List ℕ) (c : ℕ) {m : Bool} → at e 4 ≡ c → coded (codedAt c (paramAt e) (numberAt e) (lengthAt e) (arrived (messageOf e))) ≡ true →
-    m ≡ misfit c (paramAt e) (numberAt e) (lengthAt e) → cond m Reading.Misfit Reading.Fits ≡ fieldsOf e
+    m ≡ misfit c (paramAt e) (numberAt e) (lengthAt e) → fitting m ≡ fieldsOf e
 unfolding fieldsOf
 at-code e c k h g =
-    ap (λ (y : Bool). cond y Reading.Misfit Reading.Fits) g
+    ap fitting g
     ∙ fitted (codedAt c (paramAt e) (numberAt e) (lengthAt e) (arrived (messageOf e))) (misfit c (paramAt e) (numberAt e) (lengthAt e)) h
-    ∙ ap (λ (y : ℕ). fitting (codedAt y (paramAt e) (numberAt e) (lengthAt e) (arrived (messageOf e))) (misfit y (paramAt e) (numberAt e) (lengthAt e))) (sym k)
+    ∙ ap (λ (y : ℕ). saying (codedAt y (paramAt e) (numberAt e) (lengthAt e) (arrived (messageOf e))) (misfit y (paramAt e) (numberAt e) (lengthAt e))) (sym k)
 
-pub no-code : (e : List ℕ) → codedIn e ≡ Coded.Unknown → Reading.UnknownCode ≡ fieldsOf e
+pub no-code : (e : List ℕ) → codedIn e ≡ Coded.Unknown → refused 3 ≡ fieldsOf e
 unfolding fieldsOf
 no-code e h = rw h
 
@@ -72,7 +89,7 @@ NoneOf [] c = Unit {0}
 NoneOf (k ∷ ks) c = NoneOf ks c × (c ≡ k → ⊥)
 
 pub no-more : (c p : ℕ) (n : Num) (len : ℕ) (a : Arrived) →
-    NoneOf (50 ∷ 49 ∷ 48 ∷ 40 ∷ 39 ∷ 38 ∷ 37 ∷ 36 ∷ 35 ∷ 34 ∷ 33 ∷ 32 ∷ 25 ∷ 24 ∷ 23 ∷ 22 ∷ 21 ∷ 20 ∷ 19 ∷ 18 ∷ 17 ∷ 16 ∷ 9 ∷ 8 ∷ 7 ∷ 6 ∷ 5 ∷ 4 ∷ 3 ∷ 2 ∷ 1 ∷ []) c → codedAt c p n len a ≡ Coded.Unknown
+    NoneOf (T3-expired ∷ T2-expired ∷ T1-expired ∷ CONGESTION-CEASED ∷ CONGESTION ∷ CLEAR-FORCE-MODES ∷ FORCE-EMERGENCY ∷ FORCE-PROVING ∷ RECOVERED ∷ OUTAGE ∷ RELEASE ∷ PROVING-UNSUCCESSFUL ∷ RETRIEVE-COMPLETE-indication ∷ RETRIEVE-indication ∷ UNITDATA-indication ∷ RECOVER-indication ∷ RESYNC-indication ∷ DATA-indication ∷ RELEASE-confirm ∷ RELEASE-indication ∷ ESTABLISH-confirm ∷ ESTABLISH-indication ∷ CONTINUE ∷ FLUSH-BUFFERS ∷ RETRIEVAL-REQUEST-AND-FSNC ∷ RETRIEVE-BSNT ∷ START ∷ STOP ∷ EMERGENCY-CEASES ∷ EMERGENCY ∷ MESSAGE-FOR-TRANSMISSION ∷ []) c → codedAt c p n len a ≡ Coded.Unknown
 unfolding codedAt
 no-more c p n len a r =
     simp (
@@ -118,51 +135,51 @@ unfolding misfit
 at-bare c p n len h =
     let a = neither (hasMessage c || hasNumber c) (hasParameter c) (not-true _ h) in
     let b = neither (hasMessage c) (hasNumber c) (a .0) in
-    let m = neither (eqb c 1 || eqb c 20 || eqb c 23) (eqb c 24) (b .0) in
-    let m2 = neither (eqb c 1 || eqb c 20) (eqb c 23) (m .0) in
-    let m3 = neither (eqb c 1) (eqb c 20) (m2 .0) in
-    let n1 = neither (eqb c 7 || eqb c 18) (eqb c 20) (b .1) in
-    let n2 = neither (eqb c 7) (eqb c 18) (n1 .0) in
-    let p1 = neither (eqb c 16 || eqb c 17 || eqb c 18) (eqb c 39) (a .1) in
-    let p2 = neither (eqb c 16 || eqb c 17) (eqb c 18) (p1 .0) in
-    let p3 = neither (eqb c 16) (eqb c 17) (p2 .0) in
+    let m = neither (eqb c MESSAGE-FOR-TRANSMISSION || eqb c DATA-indication || eqb c UNITDATA-indication) (eqb c RETRIEVE-indication) (b .0) in
+    let m2 = neither (eqb c MESSAGE-FOR-TRANSMISSION || eqb c DATA-indication) (eqb c UNITDATA-indication) (m .0) in
+    let m3 = neither (eqb c MESSAGE-FOR-TRANSMISSION) (eqb c DATA-indication) (m2 .0) in
+    let n1 = neither (eqb c RETRIEVAL-REQUEST-AND-FSNC || eqb c RELEASE-indication) (eqb c DATA-indication) (b .1) in
+    let n2 = neither (eqb c RETRIEVAL-REQUEST-AND-FSNC) (eqb c RELEASE-indication) (n1 .0) in
+    let p1 = neither (hasField c) (eqb c CONGESTION) (a .1) in
+    let p2 = neither (eqb c ESTABLISH-indication || eqb c ESTABLISH-confirm) (eqb c RELEASE-indication) (p1 .0) in
+    let p3 = neither (eqb c ESTABLISH-indication) (eqb c ESTABLISH-confirm) (p2 .0) in
     simp (m3 .0, m3 .1, m2 .1, m .1, n2 .0, n2 .1, p3 .0, p3 .1, p1 .1, or-false)
 
-pub at-1 : (p : ℕ) (n : Num) (len : ℕ) → not (isZero n) || leb 1 p || leb len 4 ≡ misfit 1 p n len
+pub at-message : (p : ℕ) (n : Num) (len : ℕ) → not (isZero n) || leb 1 p || leb len 4 ≡ misfit MESSAGE-FOR-TRANSMISSION p n len
 unfolding misfit
-at-1 p n len = simp or-false
+at-message p n len = simp or-false
 
-pub at-7 : (p : ℕ) (n : Num) (len : ℕ) → leb 1 len || leb 1 p ≡ misfit 7 p n len
+pub at-retrieval : (p : ℕ) (n : Num) (len : ℕ) → leb 1 len || leb 1 p ≡ misfit RETRIEVAL-REQUEST-AND-FSNC p n len
 unfolding misfit
-at-7 p n len = simp or-false
+at-retrieval p n len = simp or-false
 
-pub at-16 : (p : ℕ) (n : Num) (len : ℕ) → leb 1 len || not (isZero n) || not (eqb p 0 || isStatus p) ≡ misfit 16 p n len
+pub at-establish-indication : (p : ℕ) (n : Num) (len : ℕ) → leb 1 len || not (isZero n) || not (eqb p 0 || isStatus p) ≡ misfit ESTABLISH-indication p n len
 unfolding misfit
-at-16 p n len = simp or-false
+at-establish-indication p n len = simp or-false
 
-pub at-17 : (p : ℕ) (n : Num) (len : ℕ) → leb 1 len || not (isZero n) || not (eqb p 0 || isStatus p) ≡ misfit 17 p n len
+pub at-establish-confirm : (p : ℕ) (n : Num) (len : ℕ) → leb 1 len || not (isZero n) || not (eqb p 0 || isStatus p) ≡ misfit ESTABLISH-confirm p n len
 unfolding misfit
-at-17 p n len = simp or-false
+at-establish-confirm p n len = simp or-false
 
-pub at-18 : (p : ℕ) (n : Num) (len : ℕ) → leb 1 len || not (eqb p 0 || isStatus p) || not (eqb (n .a) 0 && eqb (n .b) 0 && leb (n .c) 1) ≡ misfit 18 p n len
+pub at-release-indication : (p : ℕ) (n : Num) (len : ℕ) → leb 1 len || not (eqb p 0 || isStatus p) || not (eqb (n .a) 0 && eqb (n .b) 0 && leb (n .c) 1) ≡ misfit RELEASE-indication p n len
 unfolding misfit
-at-18 p n len = simp or-false
+at-release-indication p n len = simp or-false
 
-pub at-20 : (p : ℕ) (n : Num) (len : ℕ) → leb 1 p ≡ misfit 20 p n len
+pub at-data : (p : ℕ) (n : Num) (len : ℕ) → leb 1 p ≡ misfit DATA-indication p n len
 unfolding misfit
-at-20 p n len = simp or-false
+at-data p n len = simp or-false
 
-pub at-23 : (p : ℕ) (n : Num) (len : ℕ) → not (isZero n) || leb 1 p ≡ misfit 23 p n len
+pub at-unitdata : (p : ℕ) (n : Num) (len : ℕ) → not (isZero n) || leb 1 p ≡ misfit UNITDATA-indication p n len
 unfolding misfit
-at-23 p n len = simp or-false
+at-unitdata p n len = simp or-false
 
-pub at-24 : (p : ℕ) (n : Num) (len : ℕ) → not (isZero n) || leb 1 p ≡ misfit 24 p n len
+pub at-retrieve : (p : ℕ) (n : Num) (len : ℕ) → not (isZero n) || leb 1 p ≡ misfit RETRIEVE-indication p n len
 unfolding misfit
-at-24 p n len = simp or-false
+at-retrieve p n len = simp or-false
 
-pub at-39 : (p : ℕ) (n : Num) (len : ℕ) → leb 1 len || not (isZero n) || leb 4 p ≡ misfit 39 p n len
+pub at-congestion : (p : ℕ) (n : Num) (len : ℕ) → leb 1 len || not (isZero n) || leb 4 p ≡ misfit CONGESTION p n len
 unfolding misfit
-at-39 p n len = simp or-false
+at-congestion p n len = simp or-false
 
 -- WHAT A CODE SAYS, of all codes at once
 
@@ -170,24 +187,24 @@ abbrev eventIn : Event → Coded → Event
 eventIn d Coded.Unknown = d
 eventIn d (Coded.Of e) = e
 
-pick : (P : ℕ → Event → Type 0) (c : ℕ) (y : Code) (others : Coded) {x : Event} (t : Bool) → eqb c (y .code) ≡ t → P (y .code) (y .says) → (others ≡ Coded.Of x → P c x) →
-    cond t (Coded.Of (y .says)) others ≡ Coded.Of x → P c x
+pick : (P : ℕ → Event → Type 0) (c : ℕ) (y : Event) (others : Coded) {x : Event} (t : Bool) → eqb c (carried y .code) ≡ t → P (carried y .code) y → (others ≡ Coded.Of x → P c x) →
+    cond t (Coded.Of y) others ≡ Coded.Of x → P c x
 pick P c y others true e p rest h =
-    subst (P c) (ap (eventIn (y .says)) h) (subst (λ (k : ℕ). P k (y .says)) (sym (eqb-true c (y .code) e)) p)
+    subst (P c) (ap (eventIn y) h) (subst (λ (k : ℕ). P k y) (sym (eqb-true c (carried y .code) e)) p)
 pick P c y others false e p rest h = rest h
 
-of-codes : (P : ℕ → Event → Type 0) (c : ℕ) (ys : List Code) {x : Event} → Each (λ (y : Code). P (y .code) (y .says)) ys → among c ys ≡ Coded.Of x → P c x
-of-codes P c [] a h = absurd (true≢false (sym (ap coded h)))
-of-codes P c (y ∷ ys) a h = pick P c y (among c ys) (eqb c (y .code)) refl (a .0) (of-codes P c ys (a .1)) h
+of-events : (P : ℕ → Event → Type 0) (c : ℕ) (ys : List Event) {x : Event} → Each (λ (y : Event). P (carried y .code) y) ys → among c ys ≡ Coded.Of x → P c x
+of-events P c [] a h = absurd (true≢false (sym (ap coded h)))
+of-events P c (y ∷ ys) a h = pick P c y (among c ys) (eqb c (carried y .code)) refl (a .0) (of-events P c ys (a .1)) h
 
 -- the number that a code's event keeps: the source of a release is its last octet
 abbrev kept : ℕ → Num → Num
-kept c n = cond (eqb c 18) (num 0 0 (n .c)) (cond (hasNumber c) n none)
+kept c n = cond (eqb c RELEASE-indication) (num 0 0 (n .c)) (cond (hasNumber c) n none)
 
 abbrev Keeps : ℕ → Num → ℕ → Event → Type 0
 Keeps p n c x = carried x ≡ carrying c (cond (hasParameter c) p 0) (kept c n)
 
-keeps : (p : ℕ) (n : Num) (len : ℕ) (a : Arrived) → Each (λ (y : Code). Keeps p n (y .code) (y .says)) (codes p n len a)
+keeps : (p : ℕ) (n : Num) (len : ℕ) (a : Arrived) → Each (λ (y : Event). Keeps p n (carried y .code) y) (events p n len a)
 keeps p n len a =
     (refl, (refl, (refl, (refl, (refl, (refl, (refl, (refl, (refl, (refl, (refl, (refl, (refl, (refl, (refl, (refl, (refl, (refl, (refl, (refl, (refl, (refl, (refl, (refl, (refl, (refl, (refl, (refl, (refl, (refl, (refl, tt)))))))))))))))))))))))))))))))
 
@@ -221,17 +238,17 @@ whole c p n len h =
     let m1 = not (hasMessage c) && leb 1 len in
     let m2 = not (hasNumber c) && not (isZero n) in
     let m3 = not (hasParameter c) && leb 1 p in
-    let m4 = (eqb c 16 || eqb c 17 || eqb c 18) && not (eqb p 0 || isStatus p) in
-    let m5 = eqb c 39 && leb 4 p in
-    let m6 = eqb c 18 && not (eqb (n .a) 0 && eqb (n .b) 0 && leb (n .c) 1) in
-    let m7 = eqb c 1 && leb len 4 in
+    let m4 = hasField c && not (eqb p 0 || isStatus p) in
+    let m5 = eqb c CONGESTION && leb 4 p in
+    let m6 = eqb c RELEASE-indication && not (eqb (n .a) 0 && eqb (n .b) 0 && leb (n .c) 1) in
+    let m7 = eqb c MESSAGE-FOR-TRANSMISSION && leb len 4 in
     let h6 = neither (m1 || m2 || m3 || m4 || m5 || m6) m7 h .0 in
     let h5 = neither (m1 || m2 || m3 || m4 || m5) m6 h6 in
     let h4 = neither (m1 || m2 || m3 || m4) m5 (h5 .0) .0 in
     let h3 = neither (m1 || m2 || m3) m4 h4 .0 in
     let h2 = neither (m1 || m2) m3 h3 in
     let h1 = neither m1 m2 (h2 .0) in
-    (parameter (hasParameter c) p (h2 .1), number (eqb c 18) (hasNumber c) n (h1 .1) (h5 .1))
+    (parameter (hasParameter c) p (h2 .1), number (eqb c RELEASE-indication) (hasNumber c) n (h1 .1) (h5 .1))
 
 -- WRITING WHAT WAS READ
 
@@ -247,9 +264,9 @@ rewritten e l x o h =
     let n = numberAt e in
     let len = lengthAt e in
     let a = arrived (messageOf e) in
-    let r = subst (ToldOf e) (h .fits) (reading-tells e) in
+    let r = reading-tells e Reading.Fits (sym (h .fits)) in
     let s = known (codedIn e) (r .1) ∙ ap Coded.Of (h .event) in
-    let k : carried x ≡ carrying c (cond (hasParameter c) p 0) (kept c n) = of-codes (Keeps p n) c (codes p n len a) (keeps p n len a) s in
+    let k : carried x ≡ carrying c (cond (hasParameter c) p 0) (kept c n) = of-events (Keeps p n) c (events p n len a) (keeps p n len a) s in
     let w = whole c p n len (r .2) in
     let e4 = ap (λ (y : Carried). y .code) k in
     let e5 = ap (λ (y : Carried). y .param) k ∙ w .0 in
@@ -267,7 +284,7 @@ module _ (l c p : ℕ) (n : Num) (m : List ℕ) where
   unfolding written
   names = two-back l
 
-  fits : {x : Event} → codedAt c p n (length m) (arrived m) ≡ Coded.Of x → misfit c p n (length m) ≡ false → fieldsOf (written EV l c p n m) ≡ Reading.Fits
+  fits : {x : Event} → codedAt c p n (length m) (arrived m) ≡ Coded.Of x → misfit c p n (length m) ≡ false → fieldsOf (written EV l c p n m) ≡ accepted tt
   unfolding fieldsOf written
   fits k f = rw (two-back (length m), k, f)
 
@@ -275,7 +292,15 @@ module _ (l c p : ℕ) (n : Num) (m : List ℕ) where
   unfolding readingOf
   row h k f = record { fits = rw (frame-reread EV l c p n m h) (fits k f); link = names; event = ap said (says ∙ k) }
 
-pub reread : Reread
+each : {P Q : Event → Type 0} → ((x : Event) → P x → Q x) → (xs : List Event) → Each P xs → Each Q xs
+each f [] a = tt
+each f (x ∷ xs) a = (f x (a .0), each f xs (a .1))
+
+-- no two events have one code
+own : (p : ℕ) (n : Num) (len : ℕ) (a : Arrived) → Each (λ (x : Event). codedAt (carried x .code) p n len a ≡ Coded.Of x) (events p n len a)
 unfolding codedAt
-reread l p n m h =
-    (row l 1 p n m h refl, (row l 2 p n m h refl, (row l 3 p n m h refl, (row l 4 p n m h refl, (row l 5 p n m h refl, (row l 6 p n m h refl, (row l 7 p n m h refl, (row l 8 p n m h refl, (row l 9 p n m h refl, (row l 16 p n m h refl, (row l 17 p n m h refl, (row l 18 p n m h refl, (row l 19 p n m h refl, (row l 20 p n m h refl, (row l 21 p n m h refl, (row l 22 p n m h refl, (row l 23 p n m h refl, (row l 24 p n m h refl, (row l 25 p n m h refl, (row l 32 p n m h refl, (row l 33 p n m h refl, (row l 34 p n m h refl, (row l 35 p n m h refl, (row l 36 p n m h refl, (row l 37 p n m h refl, (row l 38 p n m h refl, (row l 39 p n m h refl, (row l 40 p n m h refl, (row l 48 p n m h refl, (row l 49 p n m h refl, (row l 50 p n m h refl, tt)))))))))))))))))))))))))))))))
+own p n len a =
+    (refl, (refl, (refl, (refl, (refl, (refl, (refl, (refl, (refl, (refl, (refl, (refl, (refl, (refl, (refl, (refl, (refl, (refl, (refl, (refl, (refl, (refl, (refl, (refl, (refl, (refl, (refl, (refl, (refl, (refl, (refl, tt)))))))))))))))))))))))))))))))
+
+pub reread : Reread
+reread l p n m h = each (λ x. row l (carried x .code) p n m {x = x} h) (events p n (length m) (arrived m)) (own p n (length m) (arrived m))

@@ -4,6 +4,7 @@ use mathlib.Core.List.{List}
 use denote.Ref.{now}
 use Rattle.unit.specs.OneAnswer.{OneReading, OneAnswer}
 use Rattle.unit.proofs.OneAnswer.{equal}
+use Rattle.event.proofs.EventRecord.{one-reading}
 use Rattle.event.proofs.message.Kinds as message-kinds
 use Rattle.event.proofs.message.Reads as message
 use Rattle.event.proofs.event.Kinds as event-kinds
@@ -24,4 +25,4 @@ pub link-one : OneAnswer link-kinds.ps link-kinds.r link.Post
 link-one κs arguments x y e f = equal
 
 pub read-event-one : OneAnswer read-event-kinds.ps read-event-kinds.r read-event.Post
-read-event-one κs arguments x y e f = equal
+read-event-one κs arguments x y e f p q = one-reading x y (equal p q)

@@ -8,6 +8,8 @@ use lib.ListN.{length}
 use Rattle.unit.specs.declared.Arrived.{Arrived}
 use Rattle.unit.specs.declared.Field.{Field}
 use Rattle.unit.specs.Unit.{decoded, arrived}
+use Rattle.unit.specs.Answered.{Answered, refused, accepted}
+use Rattle.table6.specs.EventCodes.{MESSAGE-FOR-TRANSMISSION, EMERGENCY, EMERGENCY-CEASES, STOP, START, RETRIEVE-BSNT, RETRIEVAL-REQUEST-AND-FSNC, FLUSH-BUFFERS, CONTINUE, ESTABLISH-indication, ESTABLISH-confirm, RELEASE-indication, RELEASE-confirm, DATA-indication, RESYNC-indication, RECOVER-indication, UNITDATA-indication, RETRIEVE-indication, RETRIEVE-COMPLETE-indication, PROVING-UNSUCCESSFUL, RELEASE, OUTAGE, RECOVERED, FORCE-PROVING, FORCE-EMERGENCY, CLEAR-FORCE-MODES, CONGESTION, CONGESTION-CEASED, T1-expired, T2-expired, T3-expired}
 use Rattle.link.specs.declared.Num.{Num}
 use Rattle.link.specs.declared.Event.{Event}
 use Rattle.link.specs.declared.Event.the-variants as event
@@ -19,47 +21,84 @@ use Rattle.event.specs.Frame.{messageOctets, EV, framedAs, written, link
 abbrev pub framed : List ℕ → Bool
 framed e = framedAs EV e
 
-pub record Code : Type 0 where
+-- EVENTS AND CODES
+
+-- What an event carries in its record: code, parameter and number.
+pub record Carried : Type 0 where
   pub code : ℕ
-  pub says : Event
+  pub param : ℕ
+  pub num : Num
 
-abbrev pub _says_ : ℕ → Event → Code
-_says_ c e = record { code = c; says = e }
+abbrev pub carrying : ℕ → ℕ → Num → Carried
+carrying c p n = record { code = c; param = p; num = n }
 
--- The codes, with what each carries: the parameter, the number, the length of the message, what arrived.
-abbrev pub codes : ℕ → Num → ℕ → Arrived → List Code
-codes p n len a =
-    _says_ 1 event.Message
-    ∷ _says_ 2 event.Emergency
-    ∷ _says_ 3 event.EmergencyCeases
-    ∷ _says_ 4 event.Stop
-    ∷ _says_ 5 event.Start
-    ∷ _says_ 6 event.RetrieveBsnt
-    ∷ _says_ 7 (event.Retrieval n)
-    ∷ _says_ 8 event.FlushBuffers
-    ∷ _says_ 9 event.Continue
-    ∷ _says_ 16 (event.EstablishIndication p)
-    ∷ _says_ 17 (event.EstablishConfirm p)
-    ∷ _says_ 18 (event.ReleaseIndication p (n .c))
-    ∷ _says_ 19 event.ReleaseConfirm
-    ∷ _says_ 20 (event.Data a n)
-    ∷ _says_ 21 event.Resync
-    ∷ _says_ 22 event.Recover
-    ∷ _says_ 23 event.UnitData
-    ∷ _says_ 24 (event.Retrieve len)
-    ∷ _says_ 25 event.RetrieveComplete
-    ∷ _says_ 32 event.ProvingUnsuccessful
-    ∷ _says_ 33 event.Release
-    ∷ _says_ 34 event.Outage
-    ∷ _says_ 35 event.Recovered
-    ∷ _says_ 36 event.ForceProving
-    ∷ _says_ 37 event.ForceEmergency
-    ∷ _says_ 38 event.ClearForceModes
-    ∷ _says_ 39 (event.Congestion p)
-    ∷ _says_ 40 event.CongestionCeased
-    ∷ _says_ 48 event.T1
-    ∷ _says_ 49 event.T2
-    ∷ _says_ 50 event.T3
+abbrev pub carried : Event → Carried
+carried event.Message = carrying MESSAGE-FOR-TRANSMISSION 0 none
+carried event.Emergency = carrying EMERGENCY 0 none
+carried event.EmergencyCeases = carrying EMERGENCY-CEASES 0 none
+carried event.Stop = carrying STOP 0 none
+carried event.Start = carrying START 0 none
+carried event.RetrieveBsnt = carrying RETRIEVE-BSNT 0 none
+carried (event.Retrieval n) = carrying RETRIEVAL-REQUEST-AND-FSNC 0 n
+carried event.FlushBuffers = carrying FLUSH-BUFFERS 0 none
+carried event.Continue = carrying CONTINUE 0 none
+carried (event.EstablishIndication p) = carrying ESTABLISH-indication p none
+carried (event.EstablishConfirm p) = carrying ESTABLISH-confirm p none
+carried (event.ReleaseIndication p s) = carrying RELEASE-indication p (num 0 0 s)
+carried event.ReleaseConfirm = carrying RELEASE-confirm 0 none
+carried (event.Data a n) = carrying DATA-indication 0 n
+carried event.Resync = carrying RESYNC-indication 0 none
+carried event.Recover = carrying RECOVER-indication 0 none
+carried event.UnitData = carrying UNITDATA-indication 0 none
+carried (event.Retrieve len) = carrying RETRIEVE-indication 0 none
+carried event.RetrieveComplete = carrying RETRIEVE-COMPLETE-indication 0 none
+carried event.ProvingUnsuccessful = carrying PROVING-UNSUCCESSFUL 0 none
+carried event.Release = carrying RELEASE 0 none
+carried event.Outage = carrying OUTAGE 0 none
+carried event.Recovered = carrying RECOVERED 0 none
+carried event.ForceProving = carrying FORCE-PROVING 0 none
+carried event.ForceEmergency = carrying FORCE-EMERGENCY 0 none
+carried event.ClearForceModes = carrying CLEAR-FORCE-MODES 0 none
+carried (event.Congestion p) = carrying CONGESTION p none
+carried event.CongestionCeased = carrying CONGESTION-CEASED 0 none
+carried event.T1 = carrying T1-expired 0 none
+carried event.T2 = carrying T2-expired 0 none
+carried event.T3 = carrying T3-expired 0 none
+
+-- All events, in the order of their codes, with this parameter, this number, this length of the message and what arrived in those that hold it.
+abbrev pub events : ℕ → Num → ℕ → Arrived → List Event
+events p n len a =
+    event.Message
+    ∷ event.Emergency
+    ∷ event.EmergencyCeases
+    ∷ event.Stop
+    ∷ event.Start
+    ∷ event.RetrieveBsnt
+    ∷ event.Retrieval n
+    ∷ event.FlushBuffers
+    ∷ event.Continue
+    ∷ event.EstablishIndication p
+    ∷ event.EstablishConfirm p
+    ∷ event.ReleaseIndication p (n .c)
+    ∷ event.ReleaseConfirm
+    ∷ event.Data a n
+    ∷ event.Resync
+    ∷ event.Recover
+    ∷ event.UnitData
+    ∷ event.Retrieve len
+    ∷ event.RetrieveComplete
+    ∷ event.ProvingUnsuccessful
+    ∷ event.Release
+    ∷ event.Outage
+    ∷ event.Recovered
+    ∷ event.ForceProving
+    ∷ event.ForceEmergency
+    ∷ event.ClearForceModes
+    ∷ event.Congestion p
+    ∷ event.CongestionCeased
+    ∷ event.T1
+    ∷ event.T2
+    ∷ event.T3
     ∷ []
 
 -- What a code says: an event, or nothing that document 01 has.
@@ -67,12 +106,12 @@ pub data Coded : Type 0 where
   Unknown : Coded
   Of : Event → Coded
 
-abbrev pub among : ℕ → List Code → Coded
+abbrev pub among : ℕ → List Event → Coded
 among c [] = Coded.Unknown
-among c (x ∷ others) = cond (eqb c (x .code)) (Coded.Of (x .says)) (among c others)
+among c (x ∷ others) = cond (eqb c (carried x .code)) (Coded.Of x) (among c others)
 
 unfoldable pub codedAt : ℕ → ℕ → Num → ℕ → Arrived → Coded
-codedAt c p n len a = among c (codes p n len a)
+codedAt c p n len a = among c (events p n len a)
 
 abbrev pub codedIn : List ℕ → Coded
 codedIn e = codedAt (codeAt e) (paramAt e) (numberAt e) (lengthAt e) (arrived (messageOf e))
@@ -95,13 +134,17 @@ abbrev pub isStatus : ℕ → Bool
 isStatus field = isNamed (decoded field)
 
 abbrev pub hasMessage : ℕ → Bool
-hasMessage c = eqb c 1 || eqb c 20 || eqb c 23 || eqb c 24
+hasMessage c = eqb c MESSAGE-FOR-TRANSMISSION || eqb c DATA-indication || eqb c UNITDATA-indication || eqb c RETRIEVE-indication
 
 abbrev pub hasNumber : ℕ → Bool
-hasNumber c = eqb c 7 || eqb c 18 || eqb c 20
+hasNumber c = eqb c RETRIEVAL-REQUEST-AND-FSNC || eqb c RELEASE-indication || eqb c DATA-indication
+
+-- the parameter is a status field
+abbrev pub hasField : ℕ → Bool
+hasField c = eqb c ESTABLISH-indication || eqb c ESTABLISH-confirm || eqb c RELEASE-indication
 
 abbrev pub hasParameter : ℕ → Bool
-hasParameter c = eqb c 16 || eqb c 17 || eqb c 18 || eqb c 39
+hasParameter c = hasField c || eqb c CONGESTION
 
 abbrev pub isZero : Num → Bool
 isZero n = eqb (n .a) 0 && eqb (n .b) 0 && eqb (n .c) 0
@@ -112,82 +155,50 @@ misfit c p n len =
     (not (hasMessage c) && leb 1 len)
     || (not (hasNumber c) && not (isZero n))
     || (not (hasParameter c) && leb 1 p)
-    || ((eqb c 16 || eqb c 17 || eqb c 18) && not (eqb p 0 || isStatus p))
-    || (eqb c 39 && leb 4 p)
-    || (eqb c 18 && not (eqb (n .a) 0 && eqb (n .b) 0 && leb (n .c) 1))
-    || (eqb c 1 && leb len 4)
+    || (hasField c && not (eqb p 0 || isStatus p))
+    || (eqb c CONGESTION && leb 4 p)
+    || (eqb c RELEASE-indication && not (eqb (n .a) 0 && eqb (n .b) 0 && leb (n .c) 1))
+    || (eqb c MESSAGE-FOR-TRANSMISSION && leb len 4)
 
--- WHAT OCTETS ARE AS AN EVENT RECORD: checks 2, 3 and 4 in their order.
+-- WHAT OCTETS ARE AS AN EVENT RECORD: refused by the first of checks 2, 3 and 4 that holds, or sound.
 
-abbrev pub fitting : Coded → Bool → Reading
-fitting Coded.Unknown m = Reading.UnknownCode
-fitting (Coded.Of x) m = cond m Reading.Misfit Reading.Fits
+-- The reader's answers in document 01's numbers. A sound record brings no value with it: what it holds is read off its octets.
+abbrev pub reading : Reading → Answered (Unit {0})
+reading Reading.BadFrame = refused 2
+reading Reading.UnknownCode = refused 3
+reading Reading.Misfit = refused 4
+reading Reading.Fits = accepted tt
 
-unfoldable pub fieldsOf : List ℕ → Reading
-fieldsOf e = fitting (codedIn e) (misfit (codeAt e) (paramAt e) (numberAt e) (lengthAt e))
+abbrev pub fitting : Bool → Answered (Unit {0})
+fitting misfits = cond misfits (refused 4) (accepted tt)
 
-unfoldable pub readingOf : List ℕ → Reading
-readingOf e = cond (framed e) (fieldsOf e) Reading.BadFrame
+abbrev pub saying : Coded → Bool → Answered (Unit {0})
+saying Coded.Unknown misfits = refused 3
+saying (Coded.Of x) misfits = fitting misfits
+
+unfoldable pub fieldsOf : List ℕ → Answered (Unit {0})
+fieldsOf e = saying (codedIn e) (misfit (codeAt e) (paramAt e) (numberAt e) (lengthAt e))
+
+unfoldable pub readingOf : List ℕ → Answered (Unit {0})
+readingOf e = cond (framed e) (fieldsOf e) (refused 2)
 
 -- ROUND TRIPS
 
-abbrev pub Each : (Code → Type 0) → List Code → Type 0
+abbrev pub Each : (Event → Type 0) → List Event → Type 0
 Each P [] = Unit {0}
 Each P (x ∷ others) = P x × Each P others
 
 -- Octets that hold an event for a link.
 pub record Holds (e : List ℕ) (k : ℕ) (x : Event) : Type 0 where
-  pub fits : readingOf e ≡ Reading.Fits
+  pub fits : readingOf e ≡ accepted tt
   pub link : linkAt e ≡ k
   pub event : eventOf e ≡ x
 
--- Reading what was written: each code, with whatever fits it, is read as the list says.
+-- Reading what was written: each event's code, with whatever fits it, is read as that event.
 abbrev pub Reread : Type 0
 Reread =
     (link p : ℕ) (n : Num) (m : List ℕ) → length m ≤ messageOctets →
-    Each (λ x. misfit (x .code) p n (length m) ≡ false → Holds (written EV link (x .code) p n m) link (x .says)) (codes p n (length m) (arrived m))
-
--- What an event carries.
-pub record Carried : Type 0 where
-  pub code : ℕ
-  pub param : ℕ
-  pub num : Num
-
-abbrev pub carrying : ℕ → ℕ → Num → Carried
-carrying c p n = record { code = c; param = p; num = n }
-
-abbrev pub carried : Event → Carried
-carried event.Message = carrying 1 0 none
-carried event.Emergency = carrying 2 0 none
-carried event.EmergencyCeases = carrying 3 0 none
-carried event.Stop = carrying 4 0 none
-carried event.Start = carrying 5 0 none
-carried event.RetrieveBsnt = carrying 6 0 none
-carried (event.Retrieval n) = carrying 7 0 n
-carried event.FlushBuffers = carrying 8 0 none
-carried event.Continue = carrying 9 0 none
-carried (event.EstablishIndication p) = carrying 16 p none
-carried (event.EstablishConfirm p) = carrying 17 p none
-carried (event.ReleaseIndication p s) = carrying 18 p (num 0 0 s)
-carried event.ReleaseConfirm = carrying 19 0 none
-carried (event.Data a n) = carrying 20 0 n
-carried event.Resync = carrying 21 0 none
-carried event.Recover = carrying 22 0 none
-carried event.UnitData = carrying 23 0 none
-carried (event.Retrieve len) = carrying 24 0 none
-carried event.RetrieveComplete = carrying 25 0 none
-carried event.ProvingUnsuccessful = carrying 32 0 none
-carried event.Release = carrying 33 0 none
-carried event.Outage = carrying 34 0 none
-carried event.Recovered = carrying 35 0 none
-carried event.ForceProving = carrying 36 0 none
-carried event.ForceEmergency = carrying 37 0 none
-carried event.ClearForceModes = carrying 38 0 none
-carried (event.Congestion p) = carrying 39 p none
-carried event.CongestionCeased = carrying 40 0 none
-carried event.T1 = carrying 48 0 none
-carried event.T2 = carrying 49 0 none
-carried event.T3 = carrying 50 0 none
+    Each (λ x. misfit (carried x .code) p n (length m) ≡ false → Holds (written EV link (carried x .code) p n m) link x) (events p n (length m) (arrived m))
 
 abbrev pub eventOctets : ℕ → Event → List ℕ → List ℕ
 eventOctets link e m = written EV link (carried e .code) (carried e .param) (carried e .num) m

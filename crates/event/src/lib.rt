@@ -4,15 +4,15 @@ use link::Event;
 use link::Num;
 use octet::marked;
 use octet::wide;
+use table6::events;
 use unit::Field;
 ghost use mathlib.Core.Path.{_≡_};
-ghost use mathlib.Core.Bool.{cond, not, _||_};
+ghost use mathlib.Core.Bool.{not, _||_};
 ghost use Prim.Native.Nat.{_+_, _≤_};
 ghost use lib.Dec.{eqb, leb};
 ghost use lib.ListN.{length};
-ghost use Rattle.event.specs.declared.Reading.{Reading};
 ghost use Rattle.event.specs.Frame.{headOctets, linkAt, paramAt, numberAt, lengthAt, messageOf};
-ghost use Rattle.event.specs.EventRecord.{framed, eventOf, isStatus, isZero, fieldsOf, readingOf};
+ghost use Rattle.event.specs.EventRecord.{framed, eventOf, isStatus, isZero, reading, fitting, fieldsOf, readingOf};
 
 // The octets of a record before its message, and the most of a message.
 pub const HEAD: usize = 12;
@@ -20,7 +20,7 @@ pub const HEAD: usize = 12;
 pub const MESSAGE: u16 = 4096;
 
 // The mark of an event.
-pub const EV: [u8; 2] = *b"EV";
+const EV: [u8; 2] = *b"EV";
 
 // At least twelve octets, the mark, octet 9 zero, and a length that is that of what follows.
 fn framed(e: &[u8]) -> bool
@@ -59,42 +59,42 @@ pub fn event(e: &[u8]) -> Event
     ensures { λ r. ⌜ r ≡ eventOf (now (e .entry)) ⌝ }
 {
     match e[4] {
-        1 => Event::Message,
-        2 => Event::Emergency,
-        3 => Event::EmergencyCeases,
-        4 => Event::Stop,
-        5 => Event::Start,
-        6 => Event::RetrieveBsnt,
-        7 => Event::Retrieval(number(e)),
-        8 => Event::FlushBuffers,
-        9 => Event::Continue,
-        16 => Event::EstablishIndication(e[5]),
-        17 => Event::EstablishConfirm(e[5]),
-        18 => Event::ReleaseIndication {
+        events::MESSAGE_FOR_TRANSMISSION => Event::Message,
+        events::EMERGENCY => Event::Emergency,
+        events::EMERGENCY_CEASES => Event::EmergencyCeases,
+        events::STOP => Event::Stop,
+        events::START => Event::Start,
+        events::RETRIEVE_BSNT => Event::RetrieveBsnt,
+        events::RETRIEVAL_REQUEST_AND_FSNC => Event::Retrieval(number(e)),
+        events::FLUSH_BUFFERS => Event::FlushBuffers,
+        events::CONTINUE => Event::Continue,
+        events::ESTABLISH_INDICATION => Event::EstablishIndication(e[5]),
+        events::ESTABLISH_CONFIRM => Event::EstablishConfirm(e[5]),
+        events::RELEASE_INDICATION => Event::ReleaseIndication {
             field: e[5],
             source: e[8],
         },
-        19 => Event::ReleaseConfirm,
-        20 => Event::Data(unit::read(message(e)), number(e)),
-        21 => Event::Resync,
-        22 => Event::Recover,
-        23 => Event::UnitData,
-        24 => Event::Retrieve {
+        events::RELEASE_CONFIRM => Event::ReleaseConfirm,
+        events::DATA_INDICATION => Event::Data(unit::read(message(e)), number(e)),
+        events::RESYNC_INDICATION => Event::Resync,
+        events::RECOVER_INDICATION => Event::Recover,
+        events::UNITDATA_INDICATION => Event::UnitData,
+        events::RETRIEVE_INDICATION => Event::Retrieve {
             len: wide(e[10], e[11]),
         },
-        25 => Event::RetrieveComplete,
-        32 => Event::ProvingUnsuccessful,
-        33 => Event::Release,
-        34 => Event::Outage,
-        35 => Event::Recovered,
-        36 => Event::ForceProving,
-        37 => Event::ForceEmergency,
-        38 => Event::ClearForceModes,
-        39 => Event::Congestion(e[5]),
-        40 => Event::CongestionCeased,
-        48 => Event::T1,
-        49 => Event::T2,
-        50 => Event::T3,
+        events::RETRIEVE_COMPLETE_INDICATION => Event::RetrieveComplete,
+        events::PROVING_UNSUCCESSFUL => Event::ProvingUnsuccessful,
+        events::RELEASE => Event::Release,
+        events::OUTAGE => Event::Outage,
+        events::RECOVERED => Event::Recovered,
+        events::FORCE_PROVING => Event::ForceProving,
+        events::FORCE_EMERGENCY => Event::ForceEmergency,
+        events::CLEAR_FORCE_MODES => Event::ClearForceModes,
+        events::CONGESTION => Event::Congestion(e[5]),
+        events::CONGESTION_CEASED => Event::CongestionCeased,
+        events::T1_EXPIRED => Event::T1,
+        events::T2_EXPIRED => Event::T2,
+        events::T3_EXPIRED => Event::T3,
         _ => Event::Continue,
     }
 }
@@ -132,7 +132,7 @@ pub enum Reading {
 }
 
 fn fits(misfit: bool) -> Reading
-    ensures { λ r. ⌜ r ≡ cond misfit Reading.Misfit Reading.Fits ⌝ }
+    ensures { λ r. ⌜ reading r ≡ fitting misfit ⌝ }
 {
     if misfit {
         Reading::Misfit
@@ -160,7 +160,7 @@ fn numbered(e: &[u8]) -> bool
 // The fields of a code that carries none.
 fn bare(e: &[u8]) -> Reading
     requires { ⌜ (headOctets ≤ length (now e)) × (headOctets + lengthAt (now e) ≡ length (now e)) ⌝ }
-    ensures { λ r. ⌜ r ≡ cond (leb 1 (lengthAt (now (e .entry))) || not (isZero (numberAt (now (e .entry)))) || leb 1 (paramAt (now (e .entry)))) Reading.Misfit Reading.Fits ⌝ }
+    ensures { λ r. ⌜ reading r ≡ fitting (leb 1 (lengthAt (now (e .entry))) || not (isZero (numberAt (now (e .entry)))) || leb 1 (paramAt (now (e .entry)))) ⌝ }
 {
     fits(lengthy(e) | numbered(e) | (1 <= e[5]))
 }
@@ -168,49 +168,49 @@ fn bare(e: &[u8]) -> Reading
 // Checks 3 and 4 of a sound frame: the code, and that no field is set that it doesn't carry, none out of range, and no user's message that would be taken for a unit.
 fn fields(e: &[u8]) -> Reading
     requires { ⌜ (headOctets ≤ length (now e)) × (headOctets + lengthAt (now e) ≡ length (now e)) ⌝ }
-    ensures { λ r. ⌜ r ≡ fieldsOf (now (e .entry)) ⌝ }
+    ensures { λ r. ⌜ reading r ≡ fieldsOf (now (e .entry)) ⌝ }
 {
     match e[4] {
-        1 => fits(numbered(e) | (1 <= e[5]) | (e.len() <= HEAD + 4)),
-        2 => bare(e),
-        3 => bare(e),
-        4 => bare(e),
-        5 => bare(e),
-        6 => bare(e),
-        7 => fits(lengthy(e) | (1 <= e[5])),
-        8 => bare(e),
-        9 => bare(e),
-        16 => fits(lengthy(e) | numbered(e) | bad_field(e[5])),
-        17 => fits(lengthy(e) | numbered(e) | bad_field(e[5])),
-        18 => {
+        events::MESSAGE_FOR_TRANSMISSION => fits(numbered(e) | (1 <= e[5]) | (e.len() <= HEAD + 4)),
+        events::EMERGENCY => bare(e),
+        events::EMERGENCY_CEASES => bare(e),
+        events::STOP => bare(e),
+        events::START => bare(e),
+        events::RETRIEVE_BSNT => bare(e),
+        events::RETRIEVAL_REQUEST_AND_FSNC => fits(lengthy(e) | (1 <= e[5])),
+        events::FLUSH_BUFFERS => bare(e),
+        events::CONTINUE => bare(e),
+        events::ESTABLISH_INDICATION => fits(lengthy(e) | numbered(e) | bad_field(e[5])),
+        events::ESTABLISH_CONFIRM => fits(lengthy(e) | numbered(e) | bad_field(e[5])),
+        events::RELEASE_INDICATION => {
             let small = (e[6] == 0) & (e[7] == 0) & (e[8] <= 1);
             fits(lengthy(e) | bad_field(e[5]) | !small)
         }
-        19 => bare(e),
-        20 => fits(1 <= e[5]),
-        21 => bare(e),
-        22 => bare(e),
-        23 => fits(numbered(e) | (1 <= e[5])),
-        24 => fits(numbered(e) | (1 <= e[5])),
-        25 => bare(e),
-        32 => bare(e),
-        33 => bare(e),
-        34 => bare(e),
-        35 => bare(e),
-        36 => bare(e),
-        37 => bare(e),
-        38 => bare(e),
-        39 => fits(lengthy(e) | numbered(e) | (4 <= e[5])),
-        40 => bare(e),
-        48 => bare(e),
-        49 => bare(e),
-        50 => bare(e),
+        events::RELEASE_CONFIRM => bare(e),
+        events::DATA_INDICATION => fits(1 <= e[5]),
+        events::RESYNC_INDICATION => bare(e),
+        events::RECOVER_INDICATION => bare(e),
+        events::UNITDATA_INDICATION => fits(numbered(e) | (1 <= e[5])),
+        events::RETRIEVE_INDICATION => fits(numbered(e) | (1 <= e[5])),
+        events::RETRIEVE_COMPLETE_INDICATION => bare(e),
+        events::PROVING_UNSUCCESSFUL => bare(e),
+        events::RELEASE => bare(e),
+        events::OUTAGE => bare(e),
+        events::RECOVERED => bare(e),
+        events::FORCE_PROVING => bare(e),
+        events::FORCE_EMERGENCY => bare(e),
+        events::CLEAR_FORCE_MODES => bare(e),
+        events::CONGESTION => fits(lengthy(e) | numbered(e) | (4 <= e[5])),
+        events::CONGESTION_CEASED => bare(e),
+        events::T1_EXPIRED => bare(e),
+        events::T2_EXPIRED => bare(e),
+        events::T3_EXPIRED => bare(e),
         _ => Reading::UnknownCode,
     }
 }
 
 pub fn read_event(e: &[u8]) -> Reading
-    ensures { λ r. ⌜ r ≡ readingOf (now (e .entry)) ⌝ }
+    ensures { λ r. ⌜ reading r ≡ readingOf (now (e .entry)) ⌝ }
 {
     if framed(e) {
         fields(e)

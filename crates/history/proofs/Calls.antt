@@ -9,6 +9,7 @@ use lib.ListN.{length}
 use borrow.Author.Tests.{eqb-true, eqb-false, leb-false}
 use Rattle.unit.specs.declared.Arrived.{Arrived}
 use Rattle.unit.specs.Unit.{arrived}
+use Rattle.table6.specs.EventCodes.{MESSAGE-FOR-TRANSMISSION}
 use Rattle.link.specs.declared.Link.{Link}
 use Rattle.link.specs.declared.Num.{Num}
 use Rattle.link.specs.declared.Signal.{Signal}
@@ -58,16 +59,16 @@ long-message (a ∷ b ∷ c ∷ []) h = absurd (omega arith)
 long-message (a ∷ b ∷ c ∷ d ∷ []) h = absurd (omega arith)
 long-message (a ∷ b ∷ c ∷ d ∷ e ∷ m) h = refl
 
-user-message : (p : ℕ) (n : Num) (len : ℕ) → misfit 1 p n len ≡ false → 5 ≤ len
+user-message : (p : ℕ) (n : Num) (len : ℕ) → misfit MESSAGE-FOR-TRANSMISSION p n len ≡ false → 5 ≤ len
 unfolding misfit
 user-message p n len e = by (leb len 4) refl where
   by : (b : Bool) → leb len 4 ≡ b → 5 ≤ len
-  by true q = let z : misfit 1 p n len ≡ true = simp (q, or-true) in absurd (true≢false (sym z ∙ e))
+  by true q = let z : misfit MESSAGE-FOR-TRANSMISSION p n len ≡ true = simp (q, or-true) in absurd (true≢false (sym z ∙ e))
   by false q = leb-false len 4 q
 
 -- the event of an accepted step is of the sort of the row that it meets
 module _ (t e : List ℕ) (room : ℕ) (h : first (checks t e room) ≡ passed) (c1 : ℕ) where
-  long-if-user : codeAt e ≡ 1 → arrived (messageOf e) ≡ Arrived.Long
+  long-if-user : codeAt e ≡ MESSAGE-FOR-TRANSMISSION → arrived (messageOf e) ≡ Arrived.Long
   long-if-user i =
       let fit = subst (λ (c : ℕ). misfit c (paramAt e) (numberAt e) (lengthAt e) ≡ false) i (clear (checks t e room) h .1 .1 .1 .0) in
       long-message (messageOf e) (omega (arith, user-message (paramAt e) (numberAt e) (lengthAt e) fit, message-length EV e (taken t e room h .sound)))

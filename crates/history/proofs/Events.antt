@@ -7,9 +7,11 @@ use native.Mathlib.Omega.{arith}
 use lib.Dec.{eqb}
 use borrow.Author.Tests.{eqb-true, eqb-false}
 use Rattle.unit.specs.declared.Arrived.{Arrived}
+use Rattle.table6.specs.EventCodes.{MESSAGE-FOR-TRANSMISSION, DATA-indication, T3-expired}
 use Rattle.link.specs.declared.Num.{Num}
+use Rattle.link.specs.declared.Event.{Event}
 use Rattle.link.specs.Stored.{dataRowOf, viewOf}
-use Rattle.event.specs.EventRecord.{Code, codes, Coded, among, codedAt, Each}
+use Rattle.event.specs.EventRecord.{carried, events, Coded, among, codedAt, Each}
 use Rattle.history.proofs.Walk.{Kind, Of}
 use Rattle.history.proofs.Table.{Sort, plain, sortAt}
 
@@ -35,23 +37,23 @@ plainly m =
 module _ (p : ℕ) (n : Num) (len : ℕ) (a : Arrived) (c1 : ℕ) where
   abbrev pub Fits : ℕ → Coded → Type 0
   Fits c Coded.Unknown = Unit {0}
-  Fits c (Coded.Of x) = (c ≡ 1 → a ≡ Arrived.Long) → Told (sortAt (viewOf x c1 .0)) c p a c1 (viewOf x c1 .1)
+  Fits c (Coded.Of x) = (c ≡ MESSAGE-FOR-TRANSMISSION → a ≡ Arrived.Long) → Told (sortAt (viewOf x c1 .0)) c p a c1 (viewOf x c1 .1)
 
-  by-code : (c : ℕ) (xs : List Code) → Each (λ x. Fits (x .code) (Coded.Of (x .says))) xs → Fits c (among c xs)
+  by-code : (c : ℕ) (xs : List Event) → Each (λ x. Fits (carried x .code) (Coded.Of x)) xs → Fits c (among c xs)
   by-code c [] k = tt
-  by-code c (x ∷ xs) k = by (eqb c (x .code)) refl (by-code c xs (k .1)) where
-    by : (b : Bool) → eqb c (x .code) ≡ b → Fits c (among c xs) → Fits c (cond b (Coded.Of (x .says)) (among c xs))
-    by true e m = subst (λ (i : ℕ). Fits i (Coded.Of (x .says))) (sym (eqb-true c (x .code) e)) (k .0)
+  by-code c (x ∷ xs) k = by (eqb c (carried x .code)) refl (by-code c xs (k .1)) where
+    by : (b : Bool) → eqb c (carried x .code) ≡ b → Fits c (among c xs) → Fits c (cond b (Coded.Of x) (among c xs))
+    by true e m = subst (λ (i : ℕ). Fits i (Coded.Of x)) (sym (eqb-true c (carried x .code) e)) (k .0)
     by false e m = m
 
-  by-arrived : (b : Arrived) → Told (sortAt (dataRowOf b)) 20 p b c1 0
+  by-arrived : (b : Arrived) → Told (sortAt (dataRowOf b)) DATA-indication p b c1 0
   by-arrived Arrived.INS = plainly (refl, refl)
   by-arrived Arrived.NM = plainly refl
   by-arrived (Arrived.Other status) = plainly refl
   by-arrived Arrived.Short = plainly refl
   by-arrived Arrived.Long = plainly refl
 
-  by-count : (b : Bool) → eqb c1 0 ≡ b → Told (sortAt (cond b 34 33)) 50 p a c1 0
+  by-count : (b : Bool) → eqb c1 0 ≡ b → Told (sortAt (cond b 34 33)) T3-expired p a c1 0
   by-count true e =
       record { mark = refl; zero = λ x. eqb-true c1 0 e; above = never; field = never; long = never }
   by-count false e =
@@ -62,7 +64,7 @@ module _ (p : ℕ) (n : Num) (len : ℕ) (a : Arrived) (c1 : ℕ) where
       record { mark = m; zero = never; above = never; field = λ x. refl; long = never }
 
   -- in the order of document 01's codes
-  each-code : Each (λ x. Fits (x .code) (Coded.Of (x .says))) (codes p n len a)
+  each-code : Each (λ x. Fits (carried x .code) (Coded.Of x)) (events p n len a)
   each-code =
       (λ w. record { mark = refl; zero = never; above = never; field = never; long = λ x. w refl })  -- MESSAGE_FOR_TRANSMISSION
       & (λ w. plainly refl)  -- EMERGENCY
@@ -99,4 +101,4 @@ module _ (p : ℕ) (n : Num) (len : ℕ) (a : Arrived) (c1 : ℕ) where
 
   pub fits : (c : ℕ) → Fits c (codedAt c p n len a)
   unfolding codedAt
-  fits c = by-code c (codes p n len a) each-code
+  fits c = by-code c (events p n len a) each-code

@@ -14,6 +14,8 @@ use Rattle.unit.specs.declared.Ups.{Ups}
 use Rattle.unit.specs.Unit.{unitOf, kind, arrived}
 use Rattle.unit.specs.Proving.{asked, table7}
 use Rattle.unit.proofs.Proving.{forced-emergency}
+use Rattle.table6.specs.EventCodes.{EMERGENCY, EMERGENCY-CEASES, STOP, ESTABLISH-confirm, RELEASE-indication, DATA-indication, FORCE-PROVING, FORCE-EMERGENCY, CLEAR-FORCE-MODES}
+use Rattle.table6.specs.SignalCodes.{IN-SERVICE, OUT-OF-SERVICE, ESTABLISH-response, RELEASE-request, DATA-request}
 use Rattle.table6.specs.Summary.{Op, keep, put, over}
 use Rattle.link.specs.declared.Carries.{Carries}
 use Rattle.signal.specs.SignalRecord.{bodyOf}
@@ -123,7 +125,7 @@ ruleData level above long Carries.Message A = cond long (some A) none
 
 abbrev pub ruleSignal : Bool → Bool → Bool → ℕ → Carries → Abs → Option Abs
 ruleSignal level above long c b A =
-    cond (eqb c 4) (ruleIn level A) (cond (eqb c 5) (ruleOut A) (cond (eqb c 17) (ruleUp A) (cond (eqb c 18) (ruleReleased A) (cond (eqb c 19) (ruleData level above long b A) (some A)))))
+    cond (eqb c IN-SERVICE) (ruleIn level A) (cond (eqb c OUT-OF-SERVICE) (ruleOut A) (cond (eqb c ESTABLISH-response) (ruleUp A) (cond (eqb c RELEASE-request) (ruleReleased A) (cond (eqb c DATA-request) (ruleData level above long b A) (some A)))))
 
 -- Events, as marks.
 pub data Kind : Type 0 where
@@ -155,19 +157,19 @@ each (true ∷ bs) e = absurd (true≢false e)
 each (false ∷ bs) e = (refl, each bs e)
 
 abbrev counting : ℕ → Arrived → List Bool
-counting c a = eqb c 2 ∷ eqb c 3 ∷ eqb c 4 ∷ eqb c 17 ∷ eqb c 18 ∷ eqb c 36 ∷ eqb c 37 ∷ eqb c 38 ∷ (eqb c 20 && isINS a) ∷ []
+counting c a = eqb c EMERGENCY ∷ eqb c EMERGENCY-CEASES ∷ eqb c STOP ∷ eqb c ESTABLISH-confirm ∷ eqb c RELEASE-indication ∷ eqb c FORCE-PROVING ∷ eqb c FORCE-EMERGENCY ∷ eqb c CLEAR-FORCE-MODES ∷ (eqb c DATA-indication && isINS a) ∷ []
 
 abbrev pub Of : Kind → ℕ → Arrived → Type 0
 Of quiet c a = any (counting c a) ≡ false
-Of stops c a = c ≡ 4
-Of confirms c a = c ≡ 17
-Of releases c a = c ≡ 18
-Of hears c a = (c ≡ 20) × (a ≡ Arrived.INS)
-Of (wishes Ups.Emergency) c a = c ≡ 2
-Of (wishes Ups.Normal) c a = c ≡ 3
-Of (forces Mps.Normal) c a = c ≡ 36
-Of (forces Mps.Emergency) c a = c ≡ 37
-Of (forces Mps.Neutral) c a = c ≡ 38
+Of stops c a = c ≡ STOP
+Of confirms c a = c ≡ ESTABLISH-confirm
+Of releases c a = c ≡ RELEASE-indication
+Of hears c a = (c ≡ DATA-indication) × (a ≡ Arrived.INS)
+Of (wishes Ups.Emergency) c a = c ≡ EMERGENCY
+Of (wishes Ups.Normal) c a = c ≡ EMERGENCY-CEASES
+Of (forces Mps.Normal) c a = c ≡ FORCE-PROVING
+Of (forces Mps.Emergency) c a = c ≡ FORCE-EMERGENCY
+Of (forces Mps.Neutral) c a = c ≡ CLEAR-FORCE-MODES
 
 -- THAT IT IS SO
 
@@ -188,13 +190,13 @@ module _ (f : Found) (h : List Mark) (level : f .level ≡ true → f .sent ≡ 
   abbrev Then : Option Abs → Mark → Type 0
   Then o m = Is? f o (m ∷ h)
 
-  up-ok : (x : Arrived) (A : Abs) → Is f A h → Then (ruleUp A) (emitted 17 x)
+  up-ok : (x : Arrived) (A : Abs) → Is f A h → Then (ruleUp A) (emitted ESTABLISH-response x)
   unfolding stands alive toldIns heardIns sent due lawful
   up-ok x (abs s c keep keep) k = (k .0, (refl, refl, refl, refl, rw (k .2, k .3, k .4)), k .2, k .3, k .4, k .5)
   up-ok x (abs s c keep (put y)) k = tt
   up-ok x (abs s c (put y) m) k = tt
 
-  released-ok : (x : Arrived) (A : Abs) → Is f A h → Then (ruleReleased A) (emitted 18 x)
+  released-ok : (x : Arrived) (A : Abs) → Is f A h → Then (ruleReleased A) (emitted RELEASE-request x)
   unfolding stands alive lawful
   released-ok x (abs s c u m) k = (k .0, refl, k .2, k .3, k .4, k .5)
 
@@ -204,12 +206,12 @@ module _ (f : Found) (h : List Mark) (level : f .level ≡ true → f .sent ≡ 
   not-forced Mps.Normal d i e = refl
   not-forced Mps.Emergency d i e = absurd (omega (arith, e, forced-emergency (ups (from edge h)) (field (from edge h)) (f .n1)))
 
-  proving-ok : (A : Abs) → Is f A h → Then (ruleProving (f .above) A) (emitted 19 Arrived.NM)
+  proving-ok : (A : Abs) → Is f A h → Then (ruleProving (f .above) A) (emitted DATA-request Arrived.NM)
   unfolding stands alive toldIns heardIns sent due lawful
   proving-ok (abs s dead u m) k = tt
   proving-ok (abs s (live a g new n) u m) k = tt
   proving-ok (abs s (live a g held n) u m) k = by (f .above) refl where
-    by : (b : Bool) → f .above ≡ b → Then (cond b (some (abs s (live a g held (suc n)) u m)) none) (emitted 19 Arrived.NM)
+    by : (b : Bool) → f .above ≡ b → Then (cond b (some (abs s (live a g held (suc n)) u m)) none) (emitted DATA-request Arrived.NM)
     by true e =
         let free = not-forced (mps (from edge h)) (due (f .n1) h) (omega (arith, above e, k .1 .4)) refl in
         (k .0, (k .1 .0, k .1 .1, k .1 .2, omega (arith, k .1 .3), k .1 .4), k .2, k .3, k .4, rw (k .1 .0, free) (k .5))
@@ -218,52 +220,52 @@ module _ (f : Found) (h : List Mark) (level : f .level ≡ true → f .sent ≡ 
   all-sent : f .level ≡ true → sent h ≡ 0 + f .sent → due (f .n1) h ≡ f .due → eqb (sent h) (due (f .n1) h) ≡ true
   all-sent e i j = eq-eqb (sent h) (due (f .n1) h) (omega (arith, level e))
 
-  ins-ok : (A : Abs) → Is f A h → Then (ruleIns (f .level) A) (emitted 19 Arrived.INS)
+  ins-ok : (A : Abs) → Is f A h → Then (ruleIns (f .level) A) (emitted DATA-request Arrived.INS)
   unfolding stands alive toldIns heardIns sent due lawful
   ins-ok (abs s dead u m) k = tt
   ins-ok (abs s (live a g new n) u m) k = tt
   ins-ok (abs s (live a g held zero) u m) k = by (f .level) refl where
-    by : (b : Bool) → f .level ≡ b → Then (cond b (some (abs s (live true g held zero) u m)) none) (emitted 19 Arrived.INS)
+    by : (b : Bool) → f .level ≡ b → Then (cond b (some (abs s (live true g held zero) u m)) none) (emitted DATA-request Arrived.INS)
     by true e = (k .0, (k .1 .0, rw (all-sent e (k .1 .3) (k .1 .4)), k .1 .2, k .1 .3, k .1 .4), k .2, k .3, k .4, k .5)
     by false e = tt
   ins-ok (abs s (live a g held (suc n)) u m) k = tt
 
   -- a mark that is no edge and no unit leaves the connection as it was
-  emitted-same : (c : ℕ) (x : Arrived) → eqb c 17 ≡ false → eqb c 18 ≡ false → eqb c 19 ≡ false → Same (f .n1) h (emitted c x ∷ h)
+  emitted-same : (c : ℕ) (x : Arrived) → eqb c ESTABLISH-response ≡ false → eqb c RELEASE-request ≡ false → eqb c DATA-request ≡ false → Same (f .n1) h (emitted c x ∷ h)
   unfolding alive toldIns heardIns sent due
   emitted-same c x p q r =
       record { alive-is = simp (p, q); told-is = simp (p, q, r); heard-is = simp (p, q); sent-is = simp (p, q, r); due-is = simp (p, q) }
 
-  long-same : Same (f .n1) h (emitted 19 Arrived.Long ∷ h)
+  long-same : Same (f .n1) h (emitted DATA-request Arrived.Long ∷ h)
   unfolding alive toldIns heardIns sent due
   long-same = record { alive-is = refl; told-is = refl; heard-is = refl; sent-is = refl; due-is = refl }
 
-  same-ok : (c : ℕ) (x : Arrived) (A : Abs) → Is f A h → eqb c 4 ≡ false → eqb c 5 ≡ false → eqb c 19 && isNM x ≡ false → Same (f .n1) h (emitted c x ∷ h) →
+  same-ok : (c : ℕ) (x : Arrived) (A : Abs) → Is f A h → eqb c IN-SERVICE ≡ false → eqb c OUT-OF-SERVICE ≡ false → eqb c DATA-request && isNM x ≡ false → Same (f .n1) h (emitted c x ∷ h) →
       Then (some A) (emitted c x)
   unfolding stands lawful
   same-ok c x (abs s y u m) k p q r e = (simp (p, q) (k .0), conn-same f y h _ e (k .1), simp q (k .2), k .3, k .4, simp (p, r) (k .5))
 
-  in-ok : (x : Arrived) (A : Abs) → Is f A h → Then (ruleIn (f .level) A) (emitted 4 x)
+  in-ok : (x : Arrived) (A : Abs) → Is f A h → Then (ruleIn (f .level) A) (emitted IN-SERVICE x)
   unfolding stands lawful
   in-ok x (abs s dead u m) k = tt
   in-ok x (abs s (live a g new n) u m) k = tt
   in-ok x (abs s (live true true held zero) u m) k = by (f .level) refl where
-    by : (b : Bool) → f .level ≡ b → Then (cond b (some (abs true (live true true held zero) u m)) none) (emitted 4 x)
+    by : (b : Bool) → f .level ≡ b → Then (cond b (some (abs true (live true true held zero) u m)) none) (emitted IN-SERVICE x)
     by true e =
         let all = all-sent e (k .1 .3) (k .1 .4) in
-        (refl, conn-same f (live true true held zero) h _ (emitted-same 4 x refl refl refl) (k .1), k .2, k .3, k .4, rw (k .1 .0, all, k .1 .1, k .1 .2) (k .5))
+        (refl, conn-same f (live true true held zero) h _ (emitted-same IN-SERVICE x refl refl refl) (k .1), k .2, k .3, k .4, rw (k .1 .0, all, k .1 .1, k .1 .2) (k .5))
     by false e = tt
   in-ok x (abs s (live true false held zero) u m) k = tt
   in-ok x (abs s (live false g held zero) u m) k = tt
   in-ok x (abs s (live a g held (suc n)) u m) k = tt
 
-  out-ok : (x : Arrived) (A : Abs) → Is f A h → Then (ruleOut A) (emitted 5 x)
+  out-ok : (x : Arrived) (A : Abs) → Is f A h → Then (ruleOut A) (emitted OUT-OF-SERVICE x)
   unfolding stands lawful
-  out-ok x (abs s c u m) k = (refl, conn-same f c h _ (emitted-same 5 x refl refl refl) (k .1), refl, k .3, k .4, k .5)
+  out-ok x (abs s c u m) k = (refl, conn-same f c h _ (emitted-same OUT-OF-SERVICE x refl refl refl) (k .1), refl, k .3, k .4, k .5)
 
   -- a signal that carries data: the unit that it names, or the event's own message
   module _ (message : List ℕ) (long : Bool) (no-unit : long ≡ true → arrived message ≡ Arrived.Long) (A : Abs) (k : Is f A h) where
-    unit-ok : (s : Status) → Then (ruleUnit (f .level) (f .above) s A) (emitted 19 (arrived (unitOf s)))
+    unit-ok : (s : Status) → Then (ruleUnit (f .level) (f .above) s A) (emitted DATA-request (arrived (unitOf s)))
     unfolding arrived unitOf kind
     unit-ok Status.OOS = tt
     unit-ok Status.PO = tt
@@ -275,27 +277,27 @@ module _ (f : Found) (h : List Mark) (level : f .level ≡ true → f .sent ≡ 
     unit-ok Status.PE = tt
     unit-ok Status.PNS = tt
 
-    own-ok : (b : Bool) → long ≡ b → Then (cond b (some A) none) (emitted 19 (arrived message))
-    own-ok true e = rw (no-unit e) (same-ok 19 Arrived.Long A k refl refl refl long-same)
+    own-ok : (b : Bool) → long ≡ b → Then (cond b (some A) none) (emitted DATA-request (arrived message))
+    own-ok true e = rw (no-unit e) (same-ok DATA-request Arrived.Long A k refl refl refl long-same)
     own-ok false e = tt
 
-    data-ok : (b : Carries) → Then (ruleData (f .level) (f .above) long b A) (emitted 19 (arrived (bodyOf b message)))
+    data-ok : (b : Carries) → Then (ruleData (f .level) (f .above) long b A) (emitted DATA-request (arrived (bodyOf b message)))
     data-ok Carries.Nothing = tt
     data-ok (Carries.Unit s) = unit-ok s
     data-ok Carries.Message = own-ok long refl
 
     pub signal-ok : (c : ℕ) (b : Carries) → Then (ruleSignal (f .level) (f .above) long c b A) (emitted c (arrived (bodyOf b message)))
-    signal-ok c b = by (eqb c 4) (eqb c 5) (eqb c 17) (eqb c 18) (eqb c 19) refl refl refl refl refl where
+    signal-ok c b = by (eqb c IN-SERVICE) (eqb c OUT-OF-SERVICE) (eqb c ESTABLISH-response) (eqb c RELEASE-request) (eqb c DATA-request) refl refl refl refl refl where
       x : Arrived
       x = arrived (bodyOf b message)
 
-      by : (p q r s t : Bool) → eqb c 4 ≡ p → eqb c 5 ≡ q → eqb c 17 ≡ r → eqb c 18 ≡ s → eqb c 19 ≡ t →
+      by : (p q r s t : Bool) → eqb c IN-SERVICE ≡ p → eqb c OUT-OF-SERVICE ≡ q → eqb c ESTABLISH-response ≡ r → eqb c RELEASE-request ≡ s → eqb c DATA-request ≡ t →
           Then (cond p (ruleIn (f .level) A) (cond q (ruleOut A) (cond r (ruleUp A) (cond s (ruleReleased A) (cond t (ruleData (f .level) (f .above) long b A) (some A)))))) (emitted c x)
-      by true q r s t e₁ e₂ e₃ e₄ e₅ = rw (eqb-true c 4 e₁) (in-ok x A k)
-      by false true r s t e₁ e₂ e₃ e₄ e₅ = rw (eqb-true c 5 e₂) (out-ok x A k)
-      by false false true s t e₁ e₂ e₃ e₄ e₅ = rw (eqb-true c 17 e₃) (up-ok x A k)
-      by false false false true t e₁ e₂ e₃ e₄ e₅ = rw (eqb-true c 18 e₄) (released-ok x A k)
-      by false false false false true e₁ e₂ e₃ e₄ e₅ = rw (eqb-true c 19 e₅) (data-ok b)
+      by true q r s t e₁ e₂ e₃ e₄ e₅ = rw (eqb-true c IN-SERVICE e₁) (in-ok x A k)
+      by false true r s t e₁ e₂ e₃ e₄ e₅ = rw (eqb-true c OUT-OF-SERVICE e₂) (out-ok x A k)
+      by false false true s t e₁ e₂ e₃ e₄ e₅ = rw (eqb-true c ESTABLISH-response e₃) (up-ok x A k)
+      by false false false true t e₁ e₂ e₃ e₄ e₅ = rw (eqb-true c RELEASE-request e₄) (released-ok x A k)
+      by false false false false true e₁ e₂ e₃ e₄ e₅ = rw (eqb-true c DATA-request e₅) (data-ok b)
       by false false false false false e₁ e₂ e₃ e₄ e₅ = same-ok c x A k e₁ e₂ (rw e₅) (emitted-same c x e₃ e₄ e₅)
 
 -- EVENTS. Before one the history has another field.
@@ -306,7 +308,7 @@ module _ (f : Found) (h : List Mark) where
   abbrev Next : Option Abs → ℕ → Arrived → Type 0
   Next o c a = Is? f o (accepted c (f .field) a ∷ h)
 
-  accepted-same : (c : ℕ) (a : Arrived) → eqb c 17 ≡ false → eqb c 18 ≡ false → eqb c 20 && isINS a ≡ false → Same (f .n1) h (accepted c (f .field) a ∷ h)
+  accepted-same : (c : ℕ) (a : Arrived) → eqb c ESTABLISH-confirm ≡ false → eqb c RELEASE-indication ≡ false → eqb c DATA-indication && isINS a ≡ false → Same (f .n1) h (accepted c (f .field) a ∷ h)
   unfolding alive toldIns heardIns sent due
   accepted-same c a p q r = record { alive-is = simp (p, q); told-is = simp (p, q); heard-is = simp (p, q, r); sent-is = simp (p, q); due-is = simp (p, q) }
 
@@ -320,15 +322,15 @@ module _ (f : Found) (h : List Mark) where
   pub event-ok : (e : Kind) (c : ℕ) (a : Arrived) (A : Abs) → Before f A h → Of e c a → Next (ruleEvent e A) c a
   unfolding stands alive toldIns heardIns sent due lawful
   event-ok quiet c a A k e = quiet-ok c a A k e
-  event-ok stops c a (abs s y u m) k e = rw e (refl, conn-same f y h _ (accepted-same 4 a refl refl refl) (k .1), refl, k .3, refl, k .4)
+  event-ok stops c a (abs s y u m) k e = rw e (refl, conn-same f y h _ (accepted-same STOP a refl refl refl) (k .1), refl, k .3, refl, k .4)
   event-ok confirms c a (abs s y keep keep) k e = rw e (k .0, (refl, refl, refl, refl, rw (k .2, k .3)), k .2, k .3, refl, k .4)
   event-ok confirms c a (abs s y keep (put x)) k e = tt
   event-ok confirms c a (abs s y (put x) m) k e = tt
   event-ok releases c a (abs s y u m) k e = rw e (k .0, refl, k .2, k .3, refl, k .4)
   event-ok hears c a (abs s dead u m) k e = rw (e .0) (k .0, k .1, k .2, k .3, refl, k .4)
   event-ok hears c a (abs s (live x g b n) u m) k e = rw (e .0, e .1) (k .0, (k .1 .0, k .1 .1, refl, k .1 .3, k .1 .4), k .2, k .3, refl, k .4)
-  event-ok (wishes Ups.Emergency) c a (abs s y u m) k e = rw e (k .0, conn-same f y h _ (accepted-same 2 a refl refl refl) (k .1), refl, k .3, refl, k .4)
-  event-ok (wishes Ups.Normal) c a (abs s y u m) k e = rw e (k .0, conn-same f y h _ (accepted-same 3 a refl refl refl) (k .1), refl, k .3, refl, k .4)
-  event-ok (forces Mps.Normal) c a (abs s y u m) k e = rw e (k .0, conn-same f y h _ (accepted-same 36 a refl refl refl) (k .1), k .2, refl, refl, k .4)
-  event-ok (forces Mps.Emergency) c a (abs s y u m) k e = rw e (k .0, conn-same f y h _ (accepted-same 37 a refl refl refl) (k .1), k .2, refl, refl, k .4)
-  event-ok (forces Mps.Neutral) c a (abs s y u m) k e = rw e (k .0, conn-same f y h _ (accepted-same 38 a refl refl refl) (k .1), k .2, refl, refl, k .4)
+  event-ok (wishes Ups.Emergency) c a (abs s y u m) k e = rw e (k .0, conn-same f y h _ (accepted-same EMERGENCY a refl refl refl) (k .1), refl, k .3, refl, k .4)
+  event-ok (wishes Ups.Normal) c a (abs s y u m) k e = rw e (k .0, conn-same f y h _ (accepted-same EMERGENCY-CEASES a refl refl refl) (k .1), refl, k .3, refl, k .4)
+  event-ok (forces Mps.Normal) c a (abs s y u m) k e = rw e (k .0, conn-same f y h _ (accepted-same FORCE-PROVING a refl refl refl) (k .1), k .2, refl, refl, k .4)
+  event-ok (forces Mps.Emergency) c a (abs s y u m) k e = rw e (k .0, conn-same f y h _ (accepted-same FORCE-EMERGENCY a refl refl refl) (k .1), k .2, refl, refl, k .4)
+  event-ok (forces Mps.Neutral) c a (abs s y u m) k e = rw e (k .0, conn-same f y h _ (accepted-same CLEAR-FORCE-MODES a refl refl refl) (k .1), k .2, refl, refl, k .4)

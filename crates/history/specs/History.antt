@@ -9,6 +9,8 @@ use Rattle.unit.specs.declared.Mps.{Mps}
 use Rattle.unit.specs.declared.Ups.{Ups}
 use Rattle.unit.specs.Unit.{arrived}
 use Rattle.unit.specs.Proving.{asked, table7}
+use Rattle.table6.specs.EventCodes.{EMERGENCY, EMERGENCY-CEASES, STOP, ESTABLISH-confirm, RELEASE-indication, DATA-indication, FORCE-PROVING, FORCE-EMERGENCY, CLEAR-FORCE-MODES}
+use Rattle.table6.specs.SignalCodes.{IN-SERVICE, OUT-OF-SERVICE, ESTABLISH-response, RELEASE-request, DATA-request}
 use Rattle.event.specs.Frame.{linkAt, codeAt, paramAt, messageOf}
 use Rattle.history.specs.Calls.{Seen, World}
 
@@ -66,11 +68,11 @@ holding p (emitted code holds) = p holds
 
 -- "Came up": ESTABLISH-confirm is accepted or ESTABLISH-response is sent.
 abbrev pub comesUp : Mark → Bool
-comesUp m = event 17 m || signal 17 m
+comesUp m = event ESTABLISH-confirm m || signal ESTABLISH-response m
 
 -- "Released by either end or by SSCOP": RELEASE-request is sent, this end's, or RELEASE-indication is accepted, the far user's or SSCOP's.
 abbrev pub released : Mark → Bool
-released m = signal 18 m || event 18 m
+released m = signal RELEASE-request m || event RELEASE-indication m
 
 -- Where what is seen on one connection begins or ends.
 abbrev pub edge : Mark → Bool
@@ -78,20 +80,20 @@ edge m = comesUp m || released m
 
 -- A proving unit is sent, "its INS unit was sent", "the peer's INS unit was received": data with a unit of four octets.
 abbrev pub provingSent : Mark → Bool
-provingSent m = signal 19 m && holding isNM m
+provingSent m = signal DATA-request m && holding isNM m
 
 abbrev pub insSent : Mark → Bool
-insSent m = signal 19 m && holding isINS m
+insSent m = signal DATA-request m && holding isINS m
 
 abbrev pub insReceived : Mark → Bool
-insReceived m = event 20 m && holding isINS m
+insReceived m = event DATA-indication m && holding isINS m
 
 -- "The in-service indication to the user, the out-of-service indication to the user and the user's accepted stop."
 abbrev pub inService : Mark → Bool
-inService m = signal 4 m
+inService m = signal IN-SERVICE m
 
 abbrev pub turn : Mark → Bool
-turn m = inService m || signal 5 m || event 4 m
+turn m = inService m || signal OUT-OF-SERVICE m || event STOP m
 
 -- HISTORIES
 
@@ -131,12 +133,12 @@ begun c = c .up .mark ∷ c .up .earlier
 -- MPS, what management forces: by FORCE_PROVING, by FORCE_EMERGENCY, nothing after CLEAR_FORCE_MODES.
 abbrev pub mps : List Mark → Mps
 mps [] = Mps.Neutral
-mps (m ∷ h) = cond (event 36 m) Mps.Normal (cond (event 37 m) Mps.Emergency (cond (event 38 m) Mps.Neutral (mps h)))
+mps (m ∷ h) = cond (event FORCE-PROVING m) Mps.Normal (cond (event FORCE-EMERGENCY m) Mps.Emergency (cond (event CLEAR-FORCE-MODES m) Mps.Neutral (mps h)))
 
 -- UPS, what the user wishes: by EMERGENCY, and no more after EMERGENCY_CEASES, the user's STOP or the out-of-service indication.
 abbrev pub ups : List Mark → Ups
 ups [] = Ups.Normal
-ups (m ∷ h) = cond (event 2 m) Ups.Emergency (cond (event 3 m || event 4 m || signal 5 m) Ups.Normal (ups h))
+ups (m ∷ h) = cond (event EMERGENCY m) Ups.Emergency (cond (event EMERGENCY-CEASES m || event STOP m || signal OUT-OF-SERVICE m) Ups.Normal (ups h))
 
 -- The peer's field: the parameter of the latest event.
 abbrev pub field : List Mark → ℕ

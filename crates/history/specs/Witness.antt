@@ -8,6 +8,7 @@ use lib.Dec.{eqb}
 use lib.ListN.{length, replicate}
 use Rattle.unit.specs.declared.Status.{Status}
 use Rattle.unit.specs.Unit.{code, unitOf}
+use Rattle.table6.specs.EventCodes as event
 use Rattle.link.specs.Signal.{none, num}
 use Rattle.event.specs.Frame.{EV, written}
 use Rattle.sscf.specs.Step.{records}
@@ -25,38 +26,38 @@ abbrev pub plain : ℕ → Call
 plain c = step (written EV 1 c 0 none []) room
 
 abbrev pub START : Call
-START = plain 5
+START = plain event.START
 
 abbrev pub STOP : Call
-STOP = plain 4
+STOP = plain event.STOP
 
 abbrev pub EMERGENCY : Call
-EMERGENCY = plain 2
+EMERGENCY = plain event.EMERGENCY
 
 abbrev pub FORCE-EMERGENCY : Call
-FORCE-EMERGENCY = plain 37
+FORCE-EMERGENCY = plain event.FORCE-EMERGENCY
 
 abbrev pub RELEASE : Call
-RELEASE = plain 33
+RELEASE = plain event.RELEASE
 
 abbrev pub T1 : Call
-T1 = plain 48
+T1 = plain event.T1-expired
 
 abbrev pub T3 : Call
-T3 = plain 50
+T3 = plain event.T3-expired
 
 abbrev pub ESTABLISH-confirm : Status → Call
-ESTABLISH-confirm s = step (written EV 1 17 (code s) none []) room
+ESTABLISH-confirm s = step (written EV 1 event.ESTABLISH-confirm (code s) none []) room
 
 abbrev pub ESTABLISH-indication : Status → Call
-ESTABLISH-indication s = step (written EV 1 16 (code s) none []) room
+ESTABLISH-indication s = step (written EV 1 event.ESTABLISH-indication (code s) none []) room
 
 -- 0: the far user, 1: SSCOP
 abbrev pub RELEASE-indication : ℕ → Call
-RELEASE-indication source = step (written EV 1 18 0 (num 0 0 source) []) room
+RELEASE-indication source = step (written EV 1 event.RELEASE-indication 0 (num 0 0 source) []) room
 
 abbrev pub DATA : Status → Call
-DATA s = step (written EV 1 20 0 none (unitOf s)) room
+DATA s = step (written EV 1 event.DATA-indication 0 none (unitOf s)) room
 
 -- WHAT A SEQUENCE SHOWS: the table has two links, all calls are accepted, link 1 stands in service or not, and these of the four conditions hold: the present
 -- connection, the number of units sent on it, the INS unit after them, the peer's INS unit.

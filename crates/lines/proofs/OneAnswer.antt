@@ -1,4 +1,4 @@
--- No second answer fits, of each function that other crates can call: the length answered and every octet of the text. Assumes nothing.
+-- No second answer fits, of each function that other crates can call and of those that write text for them: the length answered and every octet of the text. Assumes nothing.
 use Prim.Native.Nat.{ℕ}
 use mathlib.Core.List.{List}
 use mathlib.Core.Path.{_≡_}

@@ -4,8 +4,9 @@ use mathlib.Core.Bool.{cond}
 use mathlib.Core.List.{List, [], _∷_, _++_}
 use lib.Dec.{eqb, ltb}
 use lib.ListN.{length}
+use Rattle.unit.specs.Answered.{Answered, refused, accepted}
 use Rattle.table6.specs.declared.State.{State}
-use Rattle.record.specs.declared.Slot.{Slot}
+use Rattle.link.specs.declared.Link.{Link}
 use Rattle.octet.specs.Octets.{at}
 use Rattle.record.specs.LinkRecord.{slotOf}
 use Rattle.event.specs.Frame.{headOctets, linkAt, codeAt, paramAt, lengthAt, messageOf}
@@ -49,9 +50,9 @@ stateName State.S2104 = ascii ("2" ∷ "/" ∷ "1" ∷ "0" ∷ "/" ∷ "4" ∷ [
 stateName State.S3105 = ascii ("3" ∷ "/" ∷ "1" ∷ "0" ∷ "/" ∷ "5" ∷ [])
 
 -- the state and C1, to the end of the line
-abbrev pub slotText : Slot → List ℕ
-slotText Slot.IllFormed = line (ascii ("?" ∷ [])) (ascii ("0" ∷ []) ∷ [])
-slotText (Slot.Holds l) = line (stateName (l .state)) (decimal (l .c1) ∷ [])
+abbrev pub slotText : Answered Link → List ℕ
+slotText (refused n) = line (ascii ("?" ∷ [])) (ascii ("0" ∷ []) ∷ [])
+slotText (accepted l) = line (stateName (l .state)) (decimal (l .c1) ∷ [])
 
 abbrev pub linkLine : ℕ → List ℕ → List ℕ
 linkLine k r = ascii ("L" ∷ " " ∷ []) ++ decimal k ++ ascii (" " ∷ []) ++ slotText (slotOf r)

@@ -1,5 +1,5 @@
 // The lines of document 01's trace, as text in a buffer.
-pub mod text;
+mod text;
 
 use event::HEAD;
 use event::message;
@@ -12,9 +12,13 @@ ghost use mathlib.Core.Path.{_≡_};
 ghost use mathlib.Core.List.{_∷_, [], _++_};
 ghost use Prim.Native.Nat.{_+_, _*_, _≤_};
 ghost use lib.ListN.{length};
+ghost use Rattle.record.specs.LinkRecord.{found};
 ghost use Rattle.event.specs.Frame.{headOctets};
 ghost use Rattle.lines.specs.Text.{decimal, Added};
 ghost use Rattle.lines.specs.Lines.{firstRecord, shown, eventLine, dotted, messageText, signalLine, stateName, slotText, linkLine};
+
+// The refusal of an event whose frame is broken.
+pub const BAD_FRAME: u32 = 2;
 
 const SPACE: u8 = b' ';
 
@@ -26,7 +30,7 @@ const DOT: u8 = b'.';
 fn shown_as(refusal: u32, n: u16) -> u16
     ensures { λ r. ⌜ r ≡ shown refusal n ⌝ }
 {
-    if refusal == 2 { 0 } else { n }
+    if refusal == BAD_FRAME { 0 } else { n }
 }
 
 // The line of an event whose record begins the octets e, and of what the step answered.
@@ -123,7 +127,7 @@ fn add_state(text: &mut [u8], a: usize, s: State) -> usize
 // Adds a link's state and C1, or what stands for an ill-formed record.
 fn add_slot(text: &mut [u8], a: usize, slot: Slot) -> usize
     requires { ⌜ a + 32 ≤ length (now text) ⌝ }
-    ensures { λ r. ⌜ Added (slotText slot) (now (text .entry)) a r (now (text .exit)) × (r ≤ a + 32) ⌝ }
+    ensures { λ r. ⌜ Added (slotText (found slot)) (now (text .entry)) a r (now (text .exit)) × (r ≤ a + 32) ⌝ }
 {
     match slot {
         Slot::IllFormed => add(text, a, b"? 0\n"),

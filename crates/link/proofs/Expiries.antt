@@ -12,6 +12,7 @@ use Rattle.unit.specs.Proving.{asked, table7, table8}
 use Rattle.table6.specs.declared.State.{State}
 use Rattle.table6.specs.Cell.{T1, T3}
 use Rattle.table6.specs.Table6.{AA-ESTABLISH-indication-with-EM-NM, AA-ESTABLISH-confirm-with-EM-NM, T3-expires-and-C1>0, T3-expires-and-C1=0}
+use Rattle.table6.specs.SignalCodes.{ESTABLISH-response, START-PROVING, STOP-PROVING, SET-T3, RESET-T1}
 use Rattle.table6.specs.Words.{2/1/2, 2/2/2, 2/10/3}
 use Rattle.link.specs.declared.Carries.{Carries}
 use Rattle.link.specs.declared.Link.{Link}
@@ -33,7 +34,7 @@ is-proving l p q = λ i. with-state (p i) (with-timer T3 (q i) l)
 less-one : (c : ℕ) → suc c - 1 ≡ c
 less-one c = omega arith
 
-one-unit : (l : Link) (c : ℕ) → stepOf (with-c1 (suc c) (proving l)) event.T3 ≡ Legal (with-c1 c (proving l)) (unit Status.NM ∷ bare 50 ∷ [])
+one-unit : (l : Link) (c : ℕ) → stepOf (with-c1 (suc c) (proving l)) event.T3 ≡ Legal (with-c1 c (proving l)) (unit Status.NM ∷ bare SET-T3 ∷ [])
 unfolding stepOf T3-expires-and-C1>0
 one-unit l c = rw (ne-eqb (suc c) 0 (λ e. omega arith), less-one c)
 
@@ -55,12 +56,12 @@ proved-by-units l p k h =
 
 -- C1 is 0 and LPO is 0: by the INS flag
 ends : (l : Link) (ins : Bool) →
-    (after : Link) × (more : List Signal) × (stepOf (with-c1 0 (with-lpo false (with-ins ins (proving l)))) event.T3 ≡ Legal after (bare 33 ∷ unit Status.INS ∷ more))
+    (after : Link) × (more : List Signal) × (stepOf (with-c1 0 (with-lpo false (with-ins ins (proving l)))) event.T3 ≡ Legal after (bare STOP-PROVING ∷ unit Status.INS ∷ more))
 unfolding stepOf T3-expires-and-C1=0
 ends l false = (_, _, refl)
 ends l true = (_, _, refl)
 
-ends-so : (l : Link) → l .lpo ≡ false → (after : Link) × (more : List Signal) × (stepOf (with-c1 0 (proving l)) event.T3 ≡ Legal after (bare 33 ∷ unit Status.INS ∷ more))
+ends-so : (l : Link) → l .lpo ≡ false → (after : Link) × (more : List Signal) × (stepOf (with-c1 0 (proving l)) event.T3 ≡ Legal after (bare STOP-PROVING ∷ unit Status.INS ∷ more))
 ends-so l h =
     let e = ends l (l .ins) in
     (e .0, e .1, ap (λ (b : Bool). stepOf (with-c1 0 (with-lpo b (proving l))) event.T3) h ∙ e .2)
@@ -84,7 +85,7 @@ ends-with-ins l p h =
 pub thousand-and-one : ThousandAndOne
 thousand-and-one l p h o =
     let e = ends-with-ins l p o in
-    (e .0, e .1, subst (λ (n : ℕ). expiries (n + 1) l ≡ Legal (e .0) (units n ++ bare 33 ∷ unit Status.INS ∷ e .1)) h (e .2))
+    (e .0, e .1, subst (λ (n : ℕ). expiries (n + 1) l ≡ Legal (e .0) (units n ++ bare STOP-PROVING ∷ unit Status.INS ∷ e .1)) h (e .2))
 
 -- A CONNECTION COMES UP
 
@@ -92,13 +93,13 @@ abbrev decided : ℕ → Link → Link
 decided field l = with-c1 (table7 (l .mps) (l .ups) (asked field) (l .n1)) (with-ins false (proving l))
 
 confirm : (l : Link) (field : ℕ) → named field ≡ true →
-    stepOf (with-state 2/2/2 l) (event.EstablishConfirm field) ≡ Legal (decided field l) (bare 32 ∷ bare 50 ∷ [])
+    stepOf (with-state 2/2/2 l) (event.EstablishConfirm field) ≡ Legal (decided field l) (bare START-PROVING ∷ bare SET-T3 ∷ [])
 unfolding stepOf AA-ESTABLISH-confirm-with-EM-NM
 confirm l field u = rw u
 
 indicate : (l : Link) (field : ℕ) → named field ≡ true →
     stepOf (with-state 2/1/2 l) (event.EstablishIndication field)
-    ≡ Legal (with-timer T1 false (decided field l)) (signal 17 (code (table8 (l .mps) (l .ups))) none Carries.Nothing ∷ bare 32 ∷ bare 56 ∷ bare 50 ∷ [])
+    ≡ Legal (with-timer T1 false (decided field l)) (signal ESTABLISH-response (code (table8 (l .mps) (l .ups))) none Carries.Nothing ∷ bare START-PROVING ∷ bare RESET-T1 ∷ bare SET-T3 ∷ [])
 unfolding stepOf AA-ESTABLISH-indication-with-EM-NM
 indicate l field u = rw u
 

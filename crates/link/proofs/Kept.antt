@@ -25,11 +25,11 @@ use Rattle.link.specs.declared.Bsnt.{Bsnt}
 use Rattle.link.specs.declared.Carries.{Carries}
 use Rattle.link.specs.declared.Link.{Link}
 use Rattle.link.specs.declared.View.{View}
-use Rattle.link.specs.Effect.{taken}
+use Rattle.link.specs.Effect.{taken, NoneIsZero}
 use Rattle.link.specs.Signal.{signalOf}
 use Rattle.link.specs.Step.{Meeting}
 use Rattle.link.specs.Stored.{viewOf, meetingOf, factsOf, counted}
-use Rattle.link.specs.Kept.{NoneIsZero, messagesIn, messages, Keeps, Kept}
+use Rattle.link.specs.Kept.{messagesIn, messages, Keeps, Kept}
 use Rattle.link.proofs.Performed.{outcomeOf, as-met}
 use Rattle.link.proofs.Spoken.{length-map}
 

@@ -1,5 +1,6 @@
 -- What the actions of Table 6 do to a link's record.
 use Prim.Native.Nat.{ℕ, _-_}
+use mathlib.Core.Path.{_≡_}
 use mathlib.Core.Bool.{Bool, true, false}
 use mathlib.Core.List.{List, [], _∷_}
 use Rattle.unit.specs.declared.Mps.{Mps}
@@ -10,6 +11,7 @@ use Rattle.table6.specs.Cell.{Timer, T1, T2, T3, Told, Done, Act, tell, alter}
 use Rattle.link.specs.declared.Num.{Num}
 use Rattle.link.specs.declared.Bsnt.{Bsnt}
 use Rattle.link.specs.declared.Link.{Link}
+use Rattle.link.specs.Signal.{none}
 
 abbrev pub with-state : State → Link → Link
 with-state x l = record { state = x; ins = l .ins; lpo = l .lpo; mps = l .mps; ups = l .ups; t1 = l .t1; t2 = l .t2; t3 = l .t3; bsnt = l .bsnt; c1 = l .c1; n1 = l .n1 }
@@ -39,6 +41,10 @@ with-timer T3 x l = record { state = l .state; ins = l .ins; lpo = l .lpo; mps =
 
 abbrev pub taken : Num → Bsnt
 taken n = record { known = true; num = n }
+
+-- "BSNT is 0 where not known."
+abbrev pub NoneIsZero : Bsnt → Type 0
+NoneIsZero b = b .known ≡ false → b .num ≡ none
 
 -- Generate N1: by Table 7, from the peer's field and from MPS and UPS as the event found them.
 abbrev pub generated : Link → ℕ → ℕ

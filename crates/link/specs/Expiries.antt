@@ -5,6 +5,7 @@ use mathlib.Core.Bool.{true, false}
 use mathlib.Core.List.{List, [], _∷_, _++_}
 use Rattle.unit.specs.declared.Status.{Status}
 use Rattle.table6.specs.declared.State.{State}
+use Rattle.table6.specs.SignalCodes.{STOP-PROVING, SET-T3}
 use Rattle.table6.specs.Words.{2/1/2, 2/2/2, 2/10/3}
 use Rattle.link.specs.declared.Link.{Link}
 use Rattle.link.specs.declared.Signal.{Signal}
@@ -31,7 +32,7 @@ expiries (suc k) l = next-expiry (expiries k l)
 -- k proving units, and T3 set behind each
 abbrev pub units : ℕ → List Signal
 units zero = []
-units (suc k) = units k ++ unit Status.NM ∷ bare 50 ∷ []
+units (suc k) = units k ++ unit Status.NM ∷ bare SET-T3 ∷ []
 
 -- A link that is to be proved: in 2/10/3, T3 running, and C1 decided to be n1.
 pub record ToProve (l : Link) : Type 0 where
@@ -59,10 +60,10 @@ Proving = (l : Link) → ToProve l → (k : ℕ) → k ≤ l .n1 → expiries k 
 abbrev pub OneMore : Type 0
 OneMore =
     (l : Link) → ToProve l → l .lpo ≡ false →
-    (after : Link) × (more : List Signal) × (expiries (l .n1 + 1) l ≡ Legal after (units (l .n1) ++ bare 33 ∷ unit Status.INS ∷ more))
+    (after : Link) × (more : List Signal) × (expiries (l .n1 + 1) l ≡ Legal after (units (l .n1) ++ bare STOP-PROVING ∷ unit Status.INS ∷ more))
 
 -- With n1 = 1000, the thousand-and-first.
 abbrev pub ThousandAndOne : Type 0
 ThousandAndOne =
     (l : Link) → ToProve l → l .n1 ≡ 1000 → l .lpo ≡ false →
-    (after : Link) × (more : List Signal) × (expiries 1001 l ≡ Legal after (units 1000 ++ bare 33 ∷ unit Status.INS ∷ more))
+    (after : Link) × (more : List Signal) × (expiries 1001 l ≡ Legal after (units 1000 ++ bare STOP-PROVING ∷ unit Status.INS ∷ more))

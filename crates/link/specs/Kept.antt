@@ -2,19 +2,14 @@
 -- at most, and that at most one of them carries the event's message.
 use Prim.Native.Nat.{ℕ, _+_, _≤_}
 use mathlib.Core.Path.{_≡_}
-use mathlib.Core.Bool.{false}
 use mathlib.Core.List.{List, [], _∷_}
 use lib.ListN.{length}
-use Rattle.link.specs.declared.Bsnt.{Bsnt}
 use Rattle.link.specs.declared.Link.{Link}
 use Rattle.link.specs.declared.Carries.{Carries}
 use Rattle.link.specs.declared.Signal.{Signal}
 use Rattle.link.specs.declared.Event.{Event}
-use Rattle.link.specs.Signal.{none}
+use Rattle.link.specs.Effect.{NoneIsZero}
 use Rattle.link.specs.Step.{Outcome, Illegal, Legal, stepOf}
-
-abbrev pub NoneIsZero : Bsnt → Type 0
-NoneIsZero b = b .known ≡ false → b .num ≡ none
 
 abbrev pub messagesIn : Carries → ℕ
 messagesIn Carries.Nothing = 0

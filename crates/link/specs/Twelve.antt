@@ -8,7 +8,8 @@ use Rattle.unit.specs.declared.Status.{Status}
 use Rattle.unit.specs.declared.Ups.{Ups}
 use Rattle.table6.specs.declared.State.{State}
 use Rattle.table6.specs.Cell.{T2, T3}
-use Rattle.table6.specs.Words.{1/4/1, 2/4/2, 2/10/3, 2/10/4, 3/10/5}
+use Rattle.table6.specs.SignalCodes.{IN-SERVICE, OUT-OF-SERVICE, RELEASE-request, DATA-request, RECOVER-response, STOP-PROVING, REPORT, SET-T3, RESET-T2, RESET-T3}
+use Rattle.table6.specs.Words.{Abbreviation, –, OOS, PO, INS, ANS, PE, PNS, LR, CD, SREC, field, first, second, third, 1/4/1, 2/4/2, 2/10/3, 2/10/4, 3/10/5}
 use Rattle.link.specs.declared.Num.{Num}
 use Rattle.link.specs.declared.Carries.{Carries}
 use Rattle.link.specs.declared.Link.{Link}
@@ -39,14 +40,14 @@ in-state s r = with-state s (r .link)
 abbrev pub proved : Bool → Bool → Rest → Link
 proved lpo ins r = with-c1 0 (with-lpo lpo (with-ins ins (in-state 2/10/3 r)))
 
-abbrev pub release : ℕ → Signal
-release field = signal 18 field none Carries.Nothing
+abbrev pub release : Abbreviation → Signal
+release uu = signal RELEASE-request (field uu) none Carries.Nothing
 
 abbrev pub unit : Status → Signal
-unit s = signal 19 0 none (Carries.Unit s)
+unit s = signal DATA-request 0 none (Carries.Unit s)
 
-abbrev pub report : ℕ → ℕ → ℕ → Signal
-report a b c = signal 34 0 (num a b c) Carries.Nothing
+abbrev pub report : Abbreviation → Abbreviation → Abbreviation → Signal
+report a b c = signal REPORT 0 (num (first a) (second b) (third c)) Carries.Nothing
 
 abbrev pub twelve : List Case
 twelve =
@@ -55,35 +56,35 @@ twelve =
       before = λ r. with-c1 1 (in-state 2/10/3 r);
       event = λ r. event.T3;
       after = λ r. with-timer T3 true (with-c1 0 (in-state 2/10/3 r));
-      signals = unit Status.NM ∷ bare 50 ∷ [];
+      signals = unit Status.NM ∷ bare SET-T3 ∷ [];
     }
     -- 2
     ∷ record {
       before = proved false false;
       event = λ r. event.T3;
       after = λ r. with-state 2/10/4 (with-timer T3 false (proved false false r));
-      signals = bare 33 ∷ unit Status.INS ∷ [];
+      signals = bare STOP-PROVING ∷ unit Status.INS ∷ [];
     }
     -- 3
     ∷ record {
       before = proved false true;
       event = λ r. event.T3;
       after = λ r. with-state 3/10/5 (with-timer T2 false (with-timer T3 false (proved false true r)));
-      signals = bare 33 ∷ unit Status.INS ∷ report 0 2 0 ∷ bare 4 ∷ bare 57 ∷ [];
+      signals = bare STOP-PROVING ∷ unit Status.INS ∷ report – INS – ∷ bare IN-SERVICE ∷ bare RESET-T2 ∷ [];
     }
     -- 4
     ∷ record {
       before = proved true true;
       event = λ r. event.T3;
       after = λ r. with-state 1/4/1 (with-ups Ups.Normal (with-timer T2 false (with-timer T3 false (proved true true r))));
-      signals = release 2 ∷ bare 5 ∷ report 1 1 0 ∷ bare 33 ∷ bare 57 ∷ [];
+      signals = release PO ∷ bare OUT-OF-SERVICE ∷ report LR OOS – ∷ bare STOP-PROVING ∷ bare RESET-T2 ∷ [];
     }
     -- 5
     ∷ record {
       before = in-state 2/10/4;
       event = λ r. event.Data Arrived.INS (r .number);
       after = λ r. with-state 3/10/5 (with-timer T2 false (with-bsnt (taken (r .number)) (r .link)));
-      signals = bare 4 ∷ report 0 2 0 ∷ bare 57 ∷ [];
+      signals = bare IN-SERVICE ∷ report – INS – ∷ bare RESET-T2 ∷ [];
     }
     -- 6
     ∷ record {
@@ -97,7 +98,7 @@ twelve =
       before = in-state 3/10/5;
       event = λ r. event.Data Arrived.INS (r .number);
       after = λ r. with-state 1/4/1 (with-ups Ups.Normal (with-bsnt (taken (r .number)) (r .link)));
-      signals = release 9 ∷ bare 5 ∷ report 1 1 4 ∷ [];
+      signals = release PE ∷ bare OUT-OF-SERVICE ∷ report LR OOS PE ∷ [];
     }
     -- 8
     ∷ record {
@@ -111,28 +112,28 @@ twelve =
       before = in-state 3/10/5;
       event = λ r. event.Recover;
       after = in-state 3/10/5;
-      signals = bare 20 ∷ report 0 0 5 ∷ [];
+      signals = bare RECOVER-response ∷ report – – SREC ∷ [];
     }
     -- 10
     ∷ record {
       before = in-state 2/10/3;
       event = λ r. event.Recover;
       after = λ r. with-state 2/4/2 (with-timer T3 false (r .link));
-      signals = report 1 0 4 ∷ release 9 ∷ bare 33 ∷ bare 58 ∷ [];
+      signals = report LR – PE ∷ release PE ∷ bare STOP-PROVING ∷ bare RESET-T3 ∷ [];
     }
     -- 11
     ∷ record {
       before = in-state 2/10/3;
       event = λ r. event.Congestion (r .level);
       after = λ r. with-state 2/4/2 (with-timer T3 false (r .link));
-      signals = release 10 ∷ report 1 0 3 ∷ bare 33 ∷ bare 58 ∷ [];
+      signals = release PNS ∷ report LR – CD ∷ bare STOP-PROVING ∷ bare RESET-T3 ∷ [];
     }
     -- 12
     ∷ record {
       before = in-state 2/4/2;
       event = λ r. event.T2;
       after = λ r. with-state 1/4/1 (with-ups Ups.Normal (with-timer T2 false (r .link)));
-      signals = bare 5 ∷ report 0 1 1 ∷ [];
+      signals = bare OUT-OF-SERVICE ∷ report – OOS ANS ∷ [];
     }
     ∷ []
 

@@ -1,5 +1,5 @@
 -- The link record's round trips. Assumes nothing.
-use mathlib.Core.Path.{_≡_, refl, sym, ap, _∙_}
+use mathlib.Core.Path.{_≡_, refl, sym, ap, subst, _∙_}
 use mathlib.Core.Bool.{Bool, true, false, cond, _&&_, _||_, and-true, and-false, and-assoc, true≢false}
 use mathlib.Core.List.{List, [], _∷_}
 use Prim.Native.Nat.{ℕ, zero, suc, _+_, _*_, _/_, _%_, _≤_}
@@ -11,6 +11,7 @@ use borrow.Author.Tests.{eqb-true, leb-true, le-leb, lt-leb}
 use Rattle.unit.specs.declared.Mps.{Mps}
 use Rattle.unit.specs.declared.Ups.{Ups}
 use Rattle.unit.specs.Proving.{mpsCode, upsCode}
+use Rattle.unit.specs.Answered.{Answered, refused, accepted}
 use Rattle.table6.specs.declared.State.{State}
 use Rattle.unit.proofs.Proving.{mps-below, ups-below}
 use Rattle.table6.specs.Stored.{from}
@@ -23,7 +24,8 @@ use Rattle.record.specs.declared.SomeState.{SomeState}
 use Rattle.record.specs.declared.SomeMps.{SomeMps}
 use Rattle.octet.specs.Octets.{Octets, at, two, bit}
 use Rattle.octet.proofs.Octets.{bit-le, octet-at, high-same, low-same}
-use Rattle.record.specs.LinkRecord.{stateCode, stateAt, someState, mpsAt, someMps, upsAt, octetsOf, linkOf, wellFormed, restFormed, slotOf, Unpacked, PackedWell, UnpackedGood, Repacked}
+use Rattle.record.specs.LinkRecord.{stateCode, stateAt, mpsAt, upsAt, octetsOf, linkOf, wellFormed, slotOf, found, Unpacked, PackedWell, UnpackedGood, Repacked}
+use Rattle.record.specs.Decoded.{someState, someMps, restFormed}
 
 state-back : (s : State) → stateAt (stateCode s) ≡ s
 state-back State.S111 = refl
@@ -279,13 +281,25 @@ abbrev pub SlotTold : List ℕ → Slot → Type 0
 SlotTold r Slot.IllFormed = eqb (length r) 16 && wellFormed r ≡ false
 SlotTold r (Slot.Holds l) = (wellFormed r ≡ true) × (linkOf r ≡ l)
 
-tells : (r : List ℕ) (b : Bool) → eqb (length r) 16 && wellFormed r ≡ b → SlotTold r (cond b (Slot.Holds (linkOf r)) Slot.IllFormed)
+-- the slot of an answer
+abbrev back : Answered Link → Slot
+back (refused n) = Slot.IllFormed
+back (accepted l) = Slot.Holds l
+
+back-is : (s : Slot) → back (found s) ≡ s
+back-is Slot.IllFormed = refl
+back-is (Slot.Holds l) = refl
+
+pub one-slot : (s t : Slot) → found s ≡ found t → s ≡ t
+one-slot s t h = sym (back-is s) ∙ ap back h ∙ back-is t
+
+tells : (r : List ℕ) (b : Bool) → eqb (length r) 16 && wellFormed r ≡ b → SlotTold r (back (cond b (accepted (linkOf r)) (refused 6)))
 tells r false e = e
 tells r true e = (right (eqb (length r) 16) (wellFormed r) e, refl)
 
-pub slot-tells : (r : List ℕ) → SlotTold r (slotOf r)
+pub slot-tells : (r : List ℕ) (s : Slot) → found s ≡ slotOf r → SlotTold r s
 unfolding slotOf
-slot-tells r = tells r (eqb (length r) 16 && wellFormed r) refl
+slot-tells r s h = subst (SlotTold r) (ap back (sym h) ∙ back-is s) (tells r (eqb (length r) 16 && wellFormed r) refl)
 
 -- STATE AND MPS, decoded and tested at once
 

@@ -1,1 +1,2 @@
 pub mod LinkRecord
+pub mod Decoded

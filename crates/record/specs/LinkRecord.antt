@@ -8,12 +8,11 @@ use lib.ListN.{getD, length}
 use Rattle.unit.specs.declared.Mps.{Mps}
 use Rattle.unit.specs.declared.Ups.{Ups}
 use Rattle.unit.specs.Proving.{mpsCode, upsCode}
+use Rattle.unit.specs.Answered.{Answered, refused, accepted}
 use Rattle.table6.specs.declared.State.{State}
 use Rattle.link.specs.declared.Link.{Link}
-use Rattle.link.specs.Kept.{NoneIsZero}
+use Rattle.link.specs.Effect.{NoneIsZero}
 use Rattle.record.specs.declared.Slot.{Slot}
-use Rattle.record.specs.declared.SomeState.{SomeState}
-use Rattle.record.specs.declared.SomeMps.{SomeMps}
 use Rattle.octet.specs.Octets.{Octets, at, two, bit}
 
 abbrev pub recordOctets : ℕ
@@ -92,29 +91,14 @@ wellFormed r =
     && eqb (at r 11) 0
     && leb 1 (two (at r 14) (at r 15))
 
--- The same with state and MPS decoded and tested at once, as the code does it. Nothing here has to be believed: slotOf is what the code is proved against.
-abbrev pub someState : ℕ → SomeState
-someState c =
-    getD (SomeState.None ∷ SomeState.Of State.S111 ∷ SomeState.Of State.S141 ∷ SomeState.Of State.S212 ∷ SomeState.Of State.S222 ∷ SomeState.Of State.S242 ∷ SomeState.Of State.S2103 ∷ SomeState.Of State.S2104 ∷ SomeState.Of State.S3105 ∷ []) c SomeState.None
+-- The reader's answers in document 01's number and values.
+abbrev pub found : Slot → Answered Link
+found Slot.IllFormed = refused 6
+found (Slot.Holds l) = accepted l
 
-abbrev pub someMps : ℕ → SomeMps
-someMps c = getD (SomeMps.Of Mps.Neutral ∷ SomeMps.Of Mps.Normal ∷ SomeMps.Of Mps.Emergency ∷ []) c SomeMps.None
-
-unfoldable pub restFormed : List ℕ → Bool
-restFormed r =
-    eqb (at r 0) 76
-    && eqb (at r 1) 75
-    && leb (at r 3) 3
-    && leb (at r 5) 1
-    && leb (at r 6) 7
-    && leb (at r 7) 1
-    && (eqb (at r 7) 1 || eqb (at r 8) 0 && eqb (at r 9) 0 && eqb (at r 10) 0)
-    && eqb (at r 11) 0
-    && leb 1 (two (at r 14) (at r 15))
-
--- What octets are as a link's record.
-unfoldable pub slotOf : List ℕ → Slot
-slotOf r = cond (eqb (length r) recordOctets && wellFormed r) (Slot.Holds (linkOf r)) Slot.IllFormed
+-- What octets are as a link's record: a link, or refused by check 6.
+unfoldable pub slotOf : List ℕ → Answered Link
+slotOf r = cond (eqb (length r) recordOctets && wellFormed r) (accepted (linkOf r)) (refused 6)
 
 -- ROUND TRIPS. Unpacking what was packed gives the record.
 abbrev pub Unpacked : Type 0

@@ -10,13 +10,14 @@ use unit::Ups;
 ghost use mathlib.Core.Path.{_≡_};
 ghost use lib.ListN.{length};
 ghost use Rattle.octet.specs.Octets.{at, bit};
-ghost use Rattle.record.specs.LinkRecord.{stateCode, stateAt, someState, mpsAt, someMps, upsAt, octetsOf, linkOf, restFormed, slotOf};
+ghost use Rattle.record.specs.LinkRecord.{stateCode, stateAt, mpsAt, upsAt, octetsOf, linkOf, slotOf, found};
+ghost use Rattle.record.specs.Decoded.{someState, someMps, restFormed};
 
 // The octets of a link's record.
 pub const RECORD: usize = 16;
 
 // The mark of a link's record.
-pub const LK: [u8; 2] = *b"LK";
+const LK: [u8; 2] = *b"LK";
 
 fn bit_of(b: bool) -> u8
     ensures { λ r. ⌜ r ≡ bit b ⌝ }
@@ -163,7 +164,7 @@ pub enum Slot {
 }
 
 pub fn read_link(r: &[u8]) -> Slot
-    ensures { λ s. ⌜ s ≡ slotOf (now (r .entry)) ⌝ }
+    ensures { λ s. ⌜ found s ≡ slotOf (now (r .entry)) ⌝ }
 {
     if r.len() != RECORD {
         return Slot::IllFormed;

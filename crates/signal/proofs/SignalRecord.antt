@@ -18,7 +18,8 @@ use Rattle.link.specs.Kept.{messagesIn, messages}
 use Rattle.link.specs.Stored.{meantBy}
 use Rattle.octet.specs.Octets.{at, over, putAt}
 use Rattle.event.specs.Frame.{SG, written, linkAt, lengthAt}
-use Rattle.signal.specs.SignalRecord.{bodyOf, signalOctets, joined, fromCode, fixedAt, Put, PutCode, SignalReread, SignalRewritten, SignalsApart}
+use Rattle.signal.specs.SignalRecord.{bodyOf, signalOctets, joined, Put, SignalReread, SignalRewritten, SignalsApart}
+use Rattle.signal.specs.Writing.{fromCode, fixedAt, PutCode}
 use Rattle.octet.proofs.Over.{lent, behind, put-behind, put-set}
 use Rattle.octet.proofs.Octets.{high-same, low-same}
 use Rattle.event.proofs.Frame.{frame-reread, frame-rewritten, two-back, written-length}

@@ -1,1 +1,2 @@
 pub mod SignalRecord
+pub mod Writing

@@ -1,4 +1,5 @@
 // The signal record of document 01: twelve octets and the message that goes with the signal, one record behind the other.
+mod report;
 
 use event::HEAD;
 use event::message;
@@ -7,6 +8,21 @@ use link::Said;
 use link::count;
 use octet::put;
 use octet::put_at;
+use report::ALN;
+use report::ANS;
+use report::CC;
+use report::CD;
+use report::INS;
+use report::LR;
+use report::NONE;
+use report::OOS;
+use report::PDUT;
+use report::PE;
+use report::RR;
+use report::SR;
+use report::SREC;
+use report::SSCOP_UU;
+use report::UDR;
 use table6::effects;
 use table6::signals;
 use unit::Mps;
@@ -18,19 +34,24 @@ ghost use Prim.Native.Nat.{_+_, _≤_};
 ghost use lib.ListN.{length, set};
 ghost use Rattle.unit.specs.Unit.{code, unitOf};
 ghost use Rattle.unit.specs.Proving.{table8};
+ghost use Rattle.table6.specs.SignalCodes.{DATA-request};
 ghost use Rattle.table6.specs.Stored.{wordAt};
 ghost use Rattle.link.specs.declared.Carries.{Carries};
 ghost use Rattle.link.specs.Signal.{none, signal};
 ghost use Rattle.link.specs.Stored.{meantBy, signalsOf};
 ghost use Rattle.octet.specs.Octets.{putAt};
 ghost use Rattle.event.specs.Frame.{headOctets, messageOctets, linkAt, lengthAt, messageOf};
-ghost use Rattle.signal.specs.SignalRecord.{bodyOf, signalOctets, joined, Put, Whole, fromCode, PutCode, fixedWords, fixedAt};
+ghost use Rattle.signal.specs.SignalRecord.{bodyOf, signalOctets, joined, Put};
+ghost use Rattle.signal.specs.Writing.{Whole, fromCode, PutCode, fixedWords, fixedAt};
 
 // The mark of a signal.
-pub const SG: [u8; 2] = *b"SG";
+const SG: [u8; 2] = *b"SG";
 
 // The octet of a signal that is its code, behind the mark and the link's number.
 const CODE: usize = 4;
+
+// The octets of a unit.
+const UNIT: u8 = 4;
 
 // Octets 4 to 11 of a signal that is known beforehand: code, parameter, number, zero, length. The compiler stores eight constants at once; so what a signal
 // carries is stored after them, by itself. Each of these signals has an arm of its own, so that where w is known to be one, nothing is tested.
@@ -52,22 +73,22 @@ fn fixed(w: u8) -> [u8; 8]
         effects::RECOVER_RESPONSE => [signals::RECOVER_RESPONSE, 0, 0, 0, 0, 0, 0, 0],
         effects::PROVE => [signals::START_PROVING, 0, 0, 0, 0, 0, 0, 0],
         effects::STOP => [signals::STOP_PROVING, 0, 0, 0, 0, 0, 0, 0],
-        effects::REPORT_CC => [signals::REPORT, 0, 0, 0, 2, 0, 0, 0],
-        effects::REPORT_CD => [signals::REPORT, 0, 0, 0, 3, 0, 0, 0],
-        effects::REPORT_SREC => [signals::REPORT, 0, 0, 0, 5, 0, 0, 0],
-        effects::REPORT_UDR => [signals::REPORT, 0, 0, 0, 6, 0, 0, 0],
-        effects::REPORT_PDUT => [signals::REPORT, 0, 0, 0, 7, 0, 0, 0],
-        effects::REPORT_OOS => [signals::REPORT, 0, 0, 1, 0, 0, 0, 0],
-        effects::REPORT_OOS_ANS => [signals::REPORT, 0, 0, 1, 1, 0, 0, 0],
-        effects::REPORT_INS => [signals::REPORT, 0, 0, 2, 0, 0, 0, 0],
-        effects::REPORT_ALN => [signals::REPORT, 0, 0, 3, 0, 0, 0, 0],
-        effects::REPORT_LR_CD => [signals::REPORT, 0, 1, 0, 3, 0, 0, 0],
-        effects::REPORT_LR_PE => [signals::REPORT, 0, 1, 0, 4, 0, 0, 0],
-        effects::REPORT_LR_OOS => [signals::REPORT, 0, 1, 1, 0, 0, 0, 0],
-        effects::REPORT_LR_OOS_ANS => [signals::REPORT, 0, 1, 1, 1, 0, 0, 0],
-        effects::REPORT_LR_OOS_PE => [signals::REPORT, 0, 1, 1, 4, 0, 0, 0],
-        effects::REPORT_SR => [signals::REPORT, 0, 3, 0, 0, 0, 0, 0],
-        effects::REPORT_SR_OOS => [signals::REPORT, 0, 3, 1, 0, 0, 0, 0],
+        effects::REPORT_CC => [signals::REPORT, 0, NONE, NONE, CC, 0, 0, 0],
+        effects::REPORT_CD => [signals::REPORT, 0, NONE, NONE, CD, 0, 0, 0],
+        effects::REPORT_SREC => [signals::REPORT, 0, NONE, NONE, SREC, 0, 0, 0],
+        effects::REPORT_UDR => [signals::REPORT, 0, NONE, NONE, UDR, 0, 0, 0],
+        effects::REPORT_PDUT => [signals::REPORT, 0, NONE, NONE, PDUT, 0, 0, 0],
+        effects::REPORT_OOS => [signals::REPORT, 0, NONE, OOS, NONE, 0, 0, 0],
+        effects::REPORT_OOS_ANS => [signals::REPORT, 0, NONE, OOS, ANS, 0, 0, 0],
+        effects::REPORT_INS => [signals::REPORT, 0, NONE, INS, NONE, 0, 0, 0],
+        effects::REPORT_ALN => [signals::REPORT, 0, NONE, ALN, NONE, 0, 0, 0],
+        effects::REPORT_LR_CD => [signals::REPORT, 0, LR, NONE, CD, 0, 0, 0],
+        effects::REPORT_LR_PE => [signals::REPORT, 0, LR, NONE, PE, 0, 0, 0],
+        effects::REPORT_LR_OOS => [signals::REPORT, 0, LR, OOS, NONE, 0, 0, 0],
+        effects::REPORT_LR_OOS_ANS => [signals::REPORT, 0, LR, OOS, ANS, 0, 0, 0],
+        effects::REPORT_LR_OOS_PE => [signals::REPORT, 0, LR, OOS, PE, 0, 0, 0],
+        effects::REPORT_SR => [signals::REPORT, 0, SR, NONE, NONE, 0, 0, 0],
+        effects::REPORT_SR_OOS => [signals::REPORT, 0, SR, OOS, NONE, 0, 0, 0],
         effects::RESET_T1 => [signals::RESET_T1, 0, 0, 0, 0, 0, 0, 0],
         effects::RESET_T2 => [signals::RESET_T2, 0, 0, 0, 0, 0, 0, 0],
         effects::RESET_T3 => [signals::RESET_T3, 0, 0, 0, 0, 0, 0, 0],
@@ -112,12 +133,12 @@ fn with_number(out: &mut [u8], code: u8, num: Num) -> usize
 // Writes a data request with a unit from octet 4 on, and answers its length.
 fn with_unit(out: &mut [u8], s: Status) -> usize
     requires { ⌜ headOctets + length (unitOf s) ≤ length (now out) ⌝ }
-    ensures { λ r. ⌜ PutCode (fromCode [] (signal 19 0 none (Carries.Unit s))) (now (out .entry)) r (now (out .exit)) ⌝ }
+    ensures { λ r. ⌜ PutCode (fromCode [] (signal DATA-request 0 none (Carries.Unit s))) (now (out .entry)) r (now (out .exit)) ⌝ }
 {
-    let n = put_fixed(out, [signals::DATA_REQUEST, 0, 0, 0, 0, 0, 0, 4]);
+    let n = put_fixed(out, [signals::DATA_REQUEST, 0, 0, 0, 0, 0, 0, UNIT]);
     let unit = unit::write(s);
     put_at(out, HEAD, &unit);
-    n + 4
+    n + UNIT as usize
 }
 
 // Writes an event's message into out behind a head. It goes by way of an array of this function's own, which overlaps neither, and so the compiler makes one block
@@ -182,7 +203,7 @@ fn put_carrying(out: &mut [u8], w: u8, said: Said, e: &[u8]) -> usize
         effects::RETRIEVE_REQUEST => with_number(out, signals::RETRIEVE_REQUEST, num),
         effects::REPORT_RR_UU => with_param(
             out,
-            [signals::REPORT, 0, 2, 0, 8, 0, 0, 0],
+            [signals::REPORT, 0, RR, NONE, SSCOP_UU, 0, 0, 0],
             said.param,
         ),
         effects::RECEIVED_MESSAGE => with_message(out, signals::RECEIVED_MESSAGE, e),

@@ -4,6 +4,7 @@ use mathlib.Core.Bool.{Bool, true, false, not, _&&_, _||_}
 use mathlib.Core.List.{List, [], _∷_}
 use lib.Dec.{eqb, leb, ltb}
 use lib.ListN.{length, take, drop}
+use Rattle.table6.specs.EventCodes.{T1-expired, T2-expired, T3-expired}
 use Rattle.link.specs.declared.Link.{Link}
 use Rattle.link.specs.Step as machine
 use Rattle.octet.specs.Octets.{over, putAt}
@@ -40,7 +41,7 @@ unknown (Coded.Of x) = false
 
 -- "Expiry of a timer not marked running."
 abbrev pub idle : Link → ℕ → Bool
-idle l code = (eqb code 48 && not (l .t1)) || (eqb code 49 && not (l .t2)) || (eqb code 50 && not (l .t3))
+idle l code = (eqb code T1-expired && not (l .t1)) || (eqb code T2-expired && not (l .t2)) || (eqb code T3-expired && not (l .t3))
 
 -- THE CHECKS, in document 01's order
 

@@ -6,10 +6,11 @@ use link::Reply;
 use link::Said;
 use record::RECORD;
 use record::Slot;
+use table6::events;
 ghost use mathlib.Core.Path.{_≡_};
 ghost use Prim.Native.Nat.{_≤_, _<_};
 ghost use lib.ListN.{length, drop};
-ghost use Rattle.record.specs.LinkRecord.{slotOf};
+ghost use Rattle.record.specs.LinkRecord.{slotOf, found};
 ghost use Rattle.event.specs.Frame.{headOctets};
 ghost use Rattle.sscf.specs.Checks.{number};
 ghost use Rattle.sscf.specs.Step.{badTable, records, recordAt, idle, checks};
@@ -46,9 +47,9 @@ impl Refusal {
 }
 
 // The octets of the longest table, and the least of an output.
-pub const TABLE: usize = 4096;
+const TABLE: usize = 4096;
 
-pub const ROOM: usize = 4192;
+const ROOM: usize = 4192;
 
 // Check 1.
 pub fn bad_table(t: &[u8]) -> bool
@@ -61,7 +62,7 @@ pub fn bad_table(t: &[u8]) -> bool
 // The record of link k.
 fn slot_at(t: &[u8], k: usize) -> Slot
     requires { ⌜ k < records (now t) ⌝ }
-    ensures { λ r. ⌜ r ≡ slotOf (recordAt (now (t .entry)) k) ⌝ }
+    ensures { λ r. ⌜ found r ≡ slotOf (recordAt (now (t .entry)) k) ⌝ }
 {
     let start = RECORD * k;
     let end = start + RECORD;
@@ -72,7 +73,9 @@ fn slot_at(t: &[u8], k: usize) -> Slot
 fn idle(l: Link, code: u8) -> bool
     ensures { λ r. ⌜ r ≡ idle l code ⌝ }
 {
-    ((code == 48) && !l.t1) || ((code == 49) && !l.t2) || ((code == 50) && !l.t3)
+    ((code == events::T1_EXPIRED) && !l.t1)
+        || ((code == events::T2_EXPIRED) && !l.t2)
+        || ((code == events::T3_EXPIRED) && !l.t3)
 }
 
 // What the checks come to: a refusal, or the link, its record after the event and what is said.

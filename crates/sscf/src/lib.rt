@@ -15,7 +15,7 @@ ghost use Rattle.sscf.specs.Step.{records, answered, answering, stepCall
 ghost use Rattle.sscf.specs.Fresh.{copies, making, freshCall};
 
 // In place of a refusal's number.
-pub const ACCEPTED: u32 = 0;
+const ACCEPTED: u32 = 0;
 
 // What the step answers: 0 or the refusal, the octets written and the signals counted.
 #[repr(C)]

@@ -91,7 +91,7 @@ fn one_event(
     let k = lines::event_line(text, ordinal, event, answer.refusal, answer.signals);
     print(text, k);
     print_signals(text, out, answer.signals);
-    answer.refusal != 2
+    answer.refusal != lines::BAD_FRAME
 }
 
 // Nothing says that the events end, and a proved loop must: it counts up to a number that no run reaches.

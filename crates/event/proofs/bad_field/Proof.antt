@@ -1,4 +1,4 @@
--- `events::bad_field` meets its contract. Assumes nothing.
+-- `event::bad_field` meets its contract. Assumes nothing.
 use mathlib.Core.Path.{ap}
 use mathlib.Core.Bool.{not}
 use borrow.Author.Tests.{eq-eqb, ne-eqb}

@@ -1,4 +1,4 @@
--- `events::bare` meets its contract. Assumes nothing.
+-- `event::bare` meets its contract. Assumes nothing.
 use borrow.Author.Needs.{needs}
 use Rattle.event.proofs.bare.Statement.{statement}
 use Rattle.event.proofs.bare.Tie as tie

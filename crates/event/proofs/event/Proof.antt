@@ -1,4 +1,4 @@
--- `events::event` meets its contract: at each code the list computes, and past them none is left. Assumes nothing.
+-- `event::event` meets its contract: at each code the list computes, and past them none is left. Assumes nothing.
 use mathlib.Core.Path.{sym, ap}
 use borrow.Author.Needs.{needs}
 use Rattle.event.specs.EventRecord.{codedAt, said}

@@ -1,11 +1,12 @@
--- `events::fields` meets its contract: at each code what its fields come to, and past them none is left. Assumes nothing.
+-- `event::fields` meets its contract: at each code what its fields come to, and past them none is left. Assumes nothing.
 use borrow.Author.Needs.{needs}
 use mathlib.Core.Path.{refl, _∙_}
 use Rattle.octet.specs.Octets.{at}
+use Rattle.table6.specs.EventCodes.{MESSAGE-FOR-TRANSMISSION, EMERGENCY, EMERGENCY-CEASES, STOP, START, RETRIEVE-BSNT, RETRIEVAL-REQUEST-AND-FSNC, FLUSH-BUFFERS, CONTINUE, ESTABLISH-indication, ESTABLISH-confirm, RELEASE-indication, RELEASE-confirm, DATA-indication, RESYNC-indication, RECOVER-indication, UNITDATA-indication, RETRIEVE-indication, RETRIEVE-COMPLETE-indication, PROVING-UNSUCCESSFUL, RELEASE, OUTAGE, RECOVERED, FORCE-PROVING, FORCE-EMERGENCY, CLEAR-FORCE-MODES, CONGESTION, CONGESTION-CEASED, T1-expired, T2-expired, T3-expired}
 use Rattle.event.specs.Frame.{lengthAt, paramAt, numberAt}
 use Rattle.event.specs.EventRecord.{codedAt}
 use Rattle.event.proofs.Frame.{at-most}
-use Rattle.event.proofs.EventRecord.{at-code, no-code, no-more, at-bare, at-1, at-7, at-16, at-17, at-18, at-20, at-23, at-24, at-39}
+use Rattle.event.proofs.EventRecord.{at-code, no-code, no-more, at-bare, at-message, at-retrieval, at-establish-indication, at-establish-confirm, at-release-indication, at-data, at-unitdata, at-retrieve, at-congestion}
 use Rattle.event.proofs.fields.Statement.{statement}
 use Rattle.event.proofs.fields.Tie as tie
 
@@ -188,127 +189,127 @@ bare-requires-22 c κs = search needs
 
 returns : tie.Need-returns
 unfolding codedAt
-returns c = rw (c .fits2 .ensures, c .before .before .numbered .ensures, at-most (lengthAt (c .before .before .before .before .before .before .args .e .now)) 4 _ (c .before .before .before .before .before .before .pre .1)) (at-code (c .before .before .before .before .before .before .args .e .now) 1 (c .before .before .before .match .keys1) refl (at-1 (paramAt (c .before .before .before .before .before .before .args .e .now)) (numberAt (c .before .before .before .before .before .before .args .e .now)) (lengthAt (c .before .before .before .before .before .before .args .e .now))))
+returns c = rw (c .fits2 .ensures, c .before .before .numbered .ensures, at-most (lengthAt (c .before .before .before .before .before .before .args .e .now)) 4 _ (c .before .before .before .before .before .before .pre .1)) (at-code (c .before .before .before .before .before .before .args .e .now) MESSAGE-FOR-TRANSMISSION (c .before .before .before .match .keys1) refl (at-message (paramAt (c .before .before .before .before .before .before .args .e .now)) (numberAt (c .before .before .before .before .before .before .args .e .now)) (lengthAt (c .before .before .before .before .before .before .args .e .now))))
 
 returns-2 : tie.Need-returns-2
 unfolding codedAt
-returns-2 c = c .bare .ensures ∙ at-code (c .before .before .before .before .args .e .now) 2 (c .before .match .keys2) refl (at-bare 2 (paramAt (c .before .before .before .before .args .e .now)) (numberAt (c .before .before .before .before .args .e .now)) (lengthAt (c .before .before .before .before .args .e .now)) refl)
+returns-2 c = c .bare .ensures ∙ at-code (c .before .before .before .before .args .e .now) EMERGENCY (c .before .match .keys2) refl (at-bare EMERGENCY (paramAt (c .before .before .before .before .args .e .now)) (numberAt (c .before .before .before .before .args .e .now)) (lengthAt (c .before .before .before .before .args .e .now)) refl)
 
 returns-3 : tie.Need-returns-3
 unfolding codedAt
-returns-3 c = c .bare2 .ensures ∙ at-code (c .before .before .before .before .args .e .now) 3 (c .before .match .keys3) refl (at-bare 3 (paramAt (c .before .before .before .before .args .e .now)) (numberAt (c .before .before .before .before .args .e .now)) (lengthAt (c .before .before .before .before .args .e .now)) refl)
+returns-3 c = c .bare2 .ensures ∙ at-code (c .before .before .before .before .args .e .now) EMERGENCY-CEASES (c .before .match .keys3) refl (at-bare EMERGENCY-CEASES (paramAt (c .before .before .before .before .args .e .now)) (numberAt (c .before .before .before .before .args .e .now)) (lengthAt (c .before .before .before .before .args .e .now)) refl)
 
 returns-4 : tie.Need-returns-4
 unfolding codedAt
-returns-4 c = c .bare3 .ensures ∙ at-code (c .before .before .before .before .args .e .now) 4 (c .before .match .keys4) refl (at-bare 4 (paramAt (c .before .before .before .before .args .e .now)) (numberAt (c .before .before .before .before .args .e .now)) (lengthAt (c .before .before .before .before .args .e .now)) refl)
+returns-4 c = c .bare3 .ensures ∙ at-code (c .before .before .before .before .args .e .now) STOP (c .before .match .keys4) refl (at-bare STOP (paramAt (c .before .before .before .before .args .e .now)) (numberAt (c .before .before .before .before .args .e .now)) (lengthAt (c .before .before .before .before .args .e .now)) refl)
 
 returns-5 : tie.Need-returns-5
 unfolding codedAt
-returns-5 c = c .bare4 .ensures ∙ at-code (c .before .before .before .before .args .e .now) 5 (c .before .match .keys5) refl (at-bare 5 (paramAt (c .before .before .before .before .args .e .now)) (numberAt (c .before .before .before .before .args .e .now)) (lengthAt (c .before .before .before .before .args .e .now)) refl)
+returns-5 c = c .bare4 .ensures ∙ at-code (c .before .before .before .before .args .e .now) START (c .before .match .keys5) refl (at-bare START (paramAt (c .before .before .before .before .args .e .now)) (numberAt (c .before .before .before .before .args .e .now)) (lengthAt (c .before .before .before .before .args .e .now)) refl)
 
 returns-6 : tie.Need-returns-6
 unfolding codedAt
-returns-6 c = c .bare5 .ensures ∙ at-code (c .before .before .before .before .args .e .now) 6 (c .before .match .keys6) refl (at-bare 6 (paramAt (c .before .before .before .before .args .e .now)) (numberAt (c .before .before .before .before .args .e .now)) (lengthAt (c .before .before .before .before .args .e .now)) refl)
+returns-6 c = c .bare5 .ensures ∙ at-code (c .before .before .before .before .args .e .now) RETRIEVE-BSNT (c .before .match .keys6) refl (at-bare RETRIEVE-BSNT (paramAt (c .before .before .before .before .args .e .now)) (numberAt (c .before .before .before .before .args .e .now)) (lengthAt (c .before .before .before .before .args .e .now)) refl)
 
 returns-7 : tie.Need-returns-7
 unfolding codedAt
-returns-7 c = rw (c .fits3 .ensures, c .before .before .lengthy .ensures) (at-code (c .before .before .before .before .before .before .args .e .now) 7 (c .before .before .before .match .keys7) refl (at-7 (paramAt (c .before .before .before .before .before .before .args .e .now)) (numberAt (c .before .before .before .before .before .before .args .e .now)) (lengthAt (c .before .before .before .before .before .before .args .e .now))))
+returns-7 c = rw (c .fits3 .ensures, c .before .before .lengthy .ensures) (at-code (c .before .before .before .before .before .before .args .e .now) RETRIEVAL-REQUEST-AND-FSNC (c .before .before .before .match .keys7) refl (at-retrieval (paramAt (c .before .before .before .before .before .before .args .e .now)) (numberAt (c .before .before .before .before .before .before .args .e .now)) (lengthAt (c .before .before .before .before .before .before .args .e .now))))
 
 returns-8 : tie.Need-returns-8
 unfolding codedAt
-returns-8 c = c .bare6 .ensures ∙ at-code (c .before .before .before .before .args .e .now) 8 (c .before .match .keys8) refl (at-bare 8 (paramAt (c .before .before .before .before .args .e .now)) (numberAt (c .before .before .before .before .args .e .now)) (lengthAt (c .before .before .before .before .args .e .now)) refl)
+returns-8 c = c .bare6 .ensures ∙ at-code (c .before .before .before .before .args .e .now) FLUSH-BUFFERS (c .before .match .keys8) refl (at-bare FLUSH-BUFFERS (paramAt (c .before .before .before .before .args .e .now)) (numberAt (c .before .before .before .before .args .e .now)) (lengthAt (c .before .before .before .before .args .e .now)) refl)
 
 returns-9 : tie.Need-returns-9
 unfolding codedAt
-returns-9 c = c .bare7 .ensures ∙ at-code (c .before .before .before .before .args .e .now) 9 (c .before .match .keys9) refl (at-bare 9 (paramAt (c .before .before .before .before .args .e .now)) (numberAt (c .before .before .before .before .args .e .now)) (lengthAt (c .before .before .before .before .args .e .now)) refl)
+returns-9 c = c .bare7 .ensures ∙ at-code (c .before .before .before .before .args .e .now) CONTINUE (c .before .match .keys9) refl (at-bare CONTINUE (paramAt (c .before .before .before .before .args .e .now)) (numberAt (c .before .before .before .before .args .e .now)) (lengthAt (c .before .before .before .before .args .e .now)) refl)
 
 returns-10 : tie.Need-returns-10
 unfolding codedAt
-returns-10 c = rw (c .fits4 .ensures, c .before .before .before .before .lengthy2 .ensures, c .before .before .before .numbered2 .ensures, c .before .bad-field .ensures) (at-code (c .before .before .before .before .before .before .before .before .args .e .now) 16 (c .before .before .before .before .before .match .keys10) refl (at-16 (paramAt (c .before .before .before .before .before .before .before .before .args .e .now)) (numberAt (c .before .before .before .before .before .before .before .before .args .e .now)) (lengthAt (c .before .before .before .before .before .before .before .before .args .e .now))))
+returns-10 c = rw (c .fits4 .ensures, c .before .before .before .before .lengthy2 .ensures, c .before .before .before .numbered2 .ensures, c .before .bad-field .ensures) (at-code (c .before .before .before .before .before .before .before .before .args .e .now) ESTABLISH-indication (c .before .before .before .before .before .match .keys10) refl (at-establish-indication (paramAt (c .before .before .before .before .before .before .before .before .args .e .now)) (numberAt (c .before .before .before .before .before .before .before .before .args .e .now)) (lengthAt (c .before .before .before .before .before .before .before .before .args .e .now))))
 
 returns-11 : tie.Need-returns-11
 unfolding codedAt
-returns-11 c = rw (c .fits5 .ensures, c .before .before .before .before .lengthy3 .ensures, c .before .before .before .numbered3 .ensures, c .before .bad-field2 .ensures) (at-code (c .before .before .before .before .before .before .before .before .args .e .now) 17 (c .before .before .before .before .before .match .keys11) refl (at-17 (paramAt (c .before .before .before .before .before .before .before .before .args .e .now)) (numberAt (c .before .before .before .before .before .before .before .before .args .e .now)) (lengthAt (c .before .before .before .before .before .before .before .before .args .e .now))))
+returns-11 c = rw (c .fits5 .ensures, c .before .before .before .before .lengthy3 .ensures, c .before .before .before .numbered3 .ensures, c .before .bad-field2 .ensures) (at-code (c .before .before .before .before .before .before .before .before .args .e .now) ESTABLISH-confirm (c .before .before .before .before .before .match .keys11) refl (at-establish-confirm (paramAt (c .before .before .before .before .before .before .before .before .args .e .now)) (numberAt (c .before .before .before .before .before .before .before .before .args .e .now)) (lengthAt (c .before .before .before .before .before .before .before .before .args .e .now))))
 
 returns-12 : tie.Need-returns-12
 unfolding codedAt
-returns-12 c = rw (c .fits6 .ensures, c .before .before .before .lengthy4 .ensures, c .before .bad-field3 .ensures) (at-code (c .before .before .before .before .before .before .before .before .before .before .args .e .now) 18 (c .before .before .before .before .before .before .before .match .keys12) refl (at-18 (paramAt (c .before .before .before .before .before .before .before .before .before .before .args .e .now)) (numberAt (c .before .before .before .before .before .before .before .before .before .before .args .e .now)) (lengthAt (c .before .before .before .before .before .before .before .before .before .before .args .e .now))))
+returns-12 c = rw (c .fits6 .ensures, c .before .before .before .lengthy4 .ensures, c .before .bad-field3 .ensures) (at-code (c .before .before .before .before .before .before .before .before .before .before .args .e .now) RELEASE-indication (c .before .before .before .before .before .before .before .match .keys12) refl (at-release-indication (paramAt (c .before .before .before .before .before .before .before .before .before .before .args .e .now)) (numberAt (c .before .before .before .before .before .before .before .before .before .before .args .e .now)) (lengthAt (c .before .before .before .before .before .before .before .before .before .before .args .e .now))))
 
 returns-13 : tie.Need-returns-13
 unfolding codedAt
-returns-13 c = c .bare8 .ensures ∙ at-code (c .before .before .before .before .args .e .now) 19 (c .before .match .keys13) refl (at-bare 19 (paramAt (c .before .before .before .before .args .e .now)) (numberAt (c .before .before .before .before .args .e .now)) (lengthAt (c .before .before .before .before .args .e .now)) refl)
+returns-13 c = c .bare8 .ensures ∙ at-code (c .before .before .before .before .args .e .now) RELEASE-confirm (c .before .match .keys13) refl (at-bare RELEASE-confirm (paramAt (c .before .before .before .before .args .e .now)) (numberAt (c .before .before .before .before .args .e .now)) (lengthAt (c .before .before .before .before .args .e .now)) refl)
 
 returns-14 : tie.Need-returns-14
 unfolding codedAt
-returns-14 c = rw (c .fits7 .ensures) (at-code (c .before .before .before .before .before .args .e .now) 20 (c .before .before .match .keys14) refl (at-20 (paramAt (c .before .before .before .before .before .args .e .now)) (numberAt (c .before .before .before .before .before .args .e .now)) (lengthAt (c .before .before .before .before .before .args .e .now))))
+returns-14 c = rw (c .fits7 .ensures) (at-code (c .before .before .before .before .before .args .e .now) DATA-indication (c .before .before .match .keys14) refl (at-data (paramAt (c .before .before .before .before .before .args .e .now)) (numberAt (c .before .before .before .before .before .args .e .now)) (lengthAt (c .before .before .before .before .before .args .e .now))))
 
 returns-15 : tie.Need-returns-15
 unfolding codedAt
-returns-15 c = c .bare9 .ensures ∙ at-code (c .before .before .before .before .args .e .now) 21 (c .before .match .keys15) refl (at-bare 21 (paramAt (c .before .before .before .before .args .e .now)) (numberAt (c .before .before .before .before .args .e .now)) (lengthAt (c .before .before .before .before .args .e .now)) refl)
+returns-15 c = c .bare9 .ensures ∙ at-code (c .before .before .before .before .args .e .now) RESYNC-indication (c .before .match .keys15) refl (at-bare RESYNC-indication (paramAt (c .before .before .before .before .args .e .now)) (numberAt (c .before .before .before .before .args .e .now)) (lengthAt (c .before .before .before .before .args .e .now)) refl)
 
 returns-16 : tie.Need-returns-16
 unfolding codedAt
-returns-16 c = c .bare10 .ensures ∙ at-code (c .before .before .before .before .args .e .now) 22 (c .before .match .keys16) refl (at-bare 22 (paramAt (c .before .before .before .before .args .e .now)) (numberAt (c .before .before .before .before .args .e .now)) (lengthAt (c .before .before .before .before .args .e .now)) refl)
+returns-16 c = c .bare10 .ensures ∙ at-code (c .before .before .before .before .args .e .now) RECOVER-indication (c .before .match .keys16) refl (at-bare RECOVER-indication (paramAt (c .before .before .before .before .args .e .now)) (numberAt (c .before .before .before .before .args .e .now)) (lengthAt (c .before .before .before .before .args .e .now)) refl)
 
 returns-17 : tie.Need-returns-17
 unfolding codedAt
-returns-17 c = rw (c .fits8 .ensures, c .before .before .numbered4 .ensures) (at-code (c .before .before .before .before .before .before .args .e .now) 23 (c .before .before .before .match .keys17) refl (at-23 (paramAt (c .before .before .before .before .before .before .args .e .now)) (numberAt (c .before .before .before .before .before .before .args .e .now)) (lengthAt (c .before .before .before .before .before .before .args .e .now))))
+returns-17 c = rw (c .fits8 .ensures, c .before .before .numbered4 .ensures) (at-code (c .before .before .before .before .before .before .args .e .now) UNITDATA-indication (c .before .before .before .match .keys17) refl (at-unitdata (paramAt (c .before .before .before .before .before .before .args .e .now)) (numberAt (c .before .before .before .before .before .before .args .e .now)) (lengthAt (c .before .before .before .before .before .before .args .e .now))))
 
 returns-18 : tie.Need-returns-18
 unfolding codedAt
-returns-18 c = rw (c .fits9 .ensures, c .before .before .numbered5 .ensures) (at-code (c .before .before .before .before .before .before .args .e .now) 24 (c .before .before .before .match .keys18) refl (at-24 (paramAt (c .before .before .before .before .before .before .args .e .now)) (numberAt (c .before .before .before .before .before .before .args .e .now)) (lengthAt (c .before .before .before .before .before .before .args .e .now))))
+returns-18 c = rw (c .fits9 .ensures, c .before .before .numbered5 .ensures) (at-code (c .before .before .before .before .before .before .args .e .now) RETRIEVE-indication (c .before .before .before .match .keys18) refl (at-retrieve (paramAt (c .before .before .before .before .before .before .args .e .now)) (numberAt (c .before .before .before .before .before .before .args .e .now)) (lengthAt (c .before .before .before .before .before .before .args .e .now))))
 
 returns-19 : tie.Need-returns-19
 unfolding codedAt
-returns-19 c = c .bare11 .ensures ∙ at-code (c .before .before .before .before .args .e .now) 25 (c .before .match .keys19) refl (at-bare 25 (paramAt (c .before .before .before .before .args .e .now)) (numberAt (c .before .before .before .before .args .e .now)) (lengthAt (c .before .before .before .before .args .e .now)) refl)
+returns-19 c = c .bare11 .ensures ∙ at-code (c .before .before .before .before .args .e .now) RETRIEVE-COMPLETE-indication (c .before .match .keys19) refl (at-bare RETRIEVE-COMPLETE-indication (paramAt (c .before .before .before .before .args .e .now)) (numberAt (c .before .before .before .before .args .e .now)) (lengthAt (c .before .before .before .before .args .e .now)) refl)
 
 returns-20 : tie.Need-returns-20
 unfolding codedAt
-returns-20 c = c .bare12 .ensures ∙ at-code (c .before .before .before .before .args .e .now) 32 (c .before .match .keys20) refl (at-bare 32 (paramAt (c .before .before .before .before .args .e .now)) (numberAt (c .before .before .before .before .args .e .now)) (lengthAt (c .before .before .before .before .args .e .now)) refl)
+returns-20 c = c .bare12 .ensures ∙ at-code (c .before .before .before .before .args .e .now) PROVING-UNSUCCESSFUL (c .before .match .keys20) refl (at-bare PROVING-UNSUCCESSFUL (paramAt (c .before .before .before .before .args .e .now)) (numberAt (c .before .before .before .before .args .e .now)) (lengthAt (c .before .before .before .before .args .e .now)) refl)
 
 returns-21 : tie.Need-returns-21
 unfolding codedAt
-returns-21 c = c .bare13 .ensures ∙ at-code (c .before .before .before .before .args .e .now) 33 (c .before .match .keys21) refl (at-bare 33 (paramAt (c .before .before .before .before .args .e .now)) (numberAt (c .before .before .before .before .args .e .now)) (lengthAt (c .before .before .before .before .args .e .now)) refl)
+returns-21 c = c .bare13 .ensures ∙ at-code (c .before .before .before .before .args .e .now) RELEASE (c .before .match .keys21) refl (at-bare RELEASE (paramAt (c .before .before .before .before .args .e .now)) (numberAt (c .before .before .before .before .args .e .now)) (lengthAt (c .before .before .before .before .args .e .now)) refl)
 
 returns-22 : tie.Need-returns-22
 unfolding codedAt
-returns-22 c = c .bare14 .ensures ∙ at-code (c .before .before .before .before .args .e .now) 34 (c .before .match .keys22) refl (at-bare 34 (paramAt (c .before .before .before .before .args .e .now)) (numberAt (c .before .before .before .before .args .e .now)) (lengthAt (c .before .before .before .before .args .e .now)) refl)
+returns-22 c = c .bare14 .ensures ∙ at-code (c .before .before .before .before .args .e .now) OUTAGE (c .before .match .keys22) refl (at-bare OUTAGE (paramAt (c .before .before .before .before .args .e .now)) (numberAt (c .before .before .before .before .args .e .now)) (lengthAt (c .before .before .before .before .args .e .now)) refl)
 
 returns-23 : tie.Need-returns-23
 unfolding codedAt
-returns-23 c = c .bare15 .ensures ∙ at-code (c .before .before .before .before .args .e .now) 35 (c .before .match .keys23) refl (at-bare 35 (paramAt (c .before .before .before .before .args .e .now)) (numberAt (c .before .before .before .before .args .e .now)) (lengthAt (c .before .before .before .before .args .e .now)) refl)
+returns-23 c = c .bare15 .ensures ∙ at-code (c .before .before .before .before .args .e .now) RECOVERED (c .before .match .keys23) refl (at-bare RECOVERED (paramAt (c .before .before .before .before .args .e .now)) (numberAt (c .before .before .before .before .args .e .now)) (lengthAt (c .before .before .before .before .args .e .now)) refl)
 
 returns-24 : tie.Need-returns-24
 unfolding codedAt
-returns-24 c = c .bare16 .ensures ∙ at-code (c .before .before .before .before .args .e .now) 36 (c .before .match .keys24) refl (at-bare 36 (paramAt (c .before .before .before .before .args .e .now)) (numberAt (c .before .before .before .before .args .e .now)) (lengthAt (c .before .before .before .before .args .e .now)) refl)
+returns-24 c = c .bare16 .ensures ∙ at-code (c .before .before .before .before .args .e .now) FORCE-PROVING (c .before .match .keys24) refl (at-bare FORCE-PROVING (paramAt (c .before .before .before .before .args .e .now)) (numberAt (c .before .before .before .before .args .e .now)) (lengthAt (c .before .before .before .before .args .e .now)) refl)
 
 returns-25 : tie.Need-returns-25
 unfolding codedAt
-returns-25 c = c .bare17 .ensures ∙ at-code (c .before .before .before .before .args .e .now) 37 (c .before .match .keys25) refl (at-bare 37 (paramAt (c .before .before .before .before .args .e .now)) (numberAt (c .before .before .before .before .args .e .now)) (lengthAt (c .before .before .before .before .args .e .now)) refl)
+returns-25 c = c .bare17 .ensures ∙ at-code (c .before .before .before .before .args .e .now) FORCE-EMERGENCY (c .before .match .keys25) refl (at-bare FORCE-EMERGENCY (paramAt (c .before .before .before .before .args .e .now)) (numberAt (c .before .before .before .before .args .e .now)) (lengthAt (c .before .before .before .before .args .e .now)) refl)
 
 returns-26 : tie.Need-returns-26
 unfolding codedAt
-returns-26 c = c .bare18 .ensures ∙ at-code (c .before .before .before .before .args .e .now) 38 (c .before .match .keys26) refl (at-bare 38 (paramAt (c .before .before .before .before .args .e .now)) (numberAt (c .before .before .before .before .args .e .now)) (lengthAt (c .before .before .before .before .args .e .now)) refl)
+returns-26 c = c .bare18 .ensures ∙ at-code (c .before .before .before .before .args .e .now) CLEAR-FORCE-MODES (c .before .match .keys26) refl (at-bare CLEAR-FORCE-MODES (paramAt (c .before .before .before .before .args .e .now)) (numberAt (c .before .before .before .before .args .e .now)) (lengthAt (c .before .before .before .before .args .e .now)) refl)
 
 returns-27 : tie.Need-returns-27
 unfolding codedAt
-returns-27 c = rw (c .fits10 .ensures, c .before .before .before .lengthy5 .ensures, c .before .before .numbered6 .ensures) (at-code (c .before .before .before .before .before .before .before .args .e .now) 39 (c .before .before .before .before .match .keys27) refl (at-39 (paramAt (c .before .before .before .before .before .before .before .args .e .now)) (numberAt (c .before .before .before .before .before .before .before .args .e .now)) (lengthAt (c .before .before .before .before .before .before .before .args .e .now))))
+returns-27 c = rw (c .fits10 .ensures, c .before .before .before .lengthy5 .ensures, c .before .before .numbered6 .ensures) (at-code (c .before .before .before .before .before .before .before .args .e .now) CONGESTION (c .before .before .before .before .match .keys27) refl (at-congestion (paramAt (c .before .before .before .before .before .before .before .args .e .now)) (numberAt (c .before .before .before .before .before .before .before .args .e .now)) (lengthAt (c .before .before .before .before .before .before .before .args .e .now))))
 
 returns-28 : tie.Need-returns-28
 unfolding codedAt
-returns-28 c = c .bare19 .ensures ∙ at-code (c .before .before .before .before .args .e .now) 40 (c .before .match .keys28) refl (at-bare 40 (paramAt (c .before .before .before .before .args .e .now)) (numberAt (c .before .before .before .before .args .e .now)) (lengthAt (c .before .before .before .before .args .e .now)) refl)
+returns-28 c = c .bare19 .ensures ∙ at-code (c .before .before .before .before .args .e .now) CONGESTION-CEASED (c .before .match .keys28) refl (at-bare CONGESTION-CEASED (paramAt (c .before .before .before .before .args .e .now)) (numberAt (c .before .before .before .before .args .e .now)) (lengthAt (c .before .before .before .before .args .e .now)) refl)
 
 returns-29 : tie.Need-returns-29
 unfolding codedAt
-returns-29 c = c .bare20 .ensures ∙ at-code (c .before .before .before .before .args .e .now) 48 (c .before .match .keys29) refl (at-bare 48 (paramAt (c .before .before .before .before .args .e .now)) (numberAt (c .before .before .before .before .args .e .now)) (lengthAt (c .before .before .before .before .args .e .now)) refl)
+returns-29 c = c .bare20 .ensures ∙ at-code (c .before .before .before .before .args .e .now) T1-expired (c .before .match .keys29) refl (at-bare T1-expired (paramAt (c .before .before .before .before .args .e .now)) (numberAt (c .before .before .before .before .args .e .now)) (lengthAt (c .before .before .before .before .args .e .now)) refl)
 
 returns-30 : tie.Need-returns-30
 unfolding codedAt
-returns-30 c = c .bare21 .ensures ∙ at-code (c .before .before .before .before .args .e .now) 49 (c .before .match .keys30) refl (at-bare 49 (paramAt (c .before .before .before .before .args .e .now)) (numberAt (c .before .before .before .before .args .e .now)) (lengthAt (c .before .before .before .before .args .e .now)) refl)
+returns-30 c = c .bare21 .ensures ∙ at-code (c .before .before .before .before .args .e .now) T2-expired (c .before .match .keys30) refl (at-bare T2-expired (paramAt (c .before .before .before .before .args .e .now)) (numberAt (c .before .before .before .before .args .e .now)) (lengthAt (c .before .before .before .before .args .e .now)) refl)
 
 returns-31 : tie.Need-returns-31
 unfolding codedAt
-returns-31 c = c .bare22 .ensures ∙ at-code (c .before .before .before .before .args .e .now) 50 (c .before .match .keys31) refl (at-bare 50 (paramAt (c .before .before .before .before .args .e .now)) (numberAt (c .before .before .before .before .args .e .now)) (lengthAt (c .before .before .before .before .args .e .now)) refl)
+returns-31 c = c .bare22 .ensures ∙ at-code (c .before .before .before .before .args .e .now) T3-expired (c .before .match .keys31) refl (at-bare T3-expired (paramAt (c .before .before .before .before .args .e .now)) (numberAt (c .before .before .before .before .args .e .now)) (lengthAt (c .before .before .before .before .args .e .now)) refl)
 
 -- past the codes that document 01 has
 returns-32 : tie.Need-returns-32

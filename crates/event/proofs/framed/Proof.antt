@@ -1,4 +1,4 @@
--- `events::framed` meets its contract. Assumes nothing.
+-- `event::framed` meets its contract. Assumes nothing.
 use borrow.Author.Tests.{le-leb, lt-leb}
 use Rattle.event.specs.Frame.{framedAs}
 use borrow.Author.Needs.{needs}

@@ -1,4 +1,4 @@
--- `events::is_status` meets its contract. Assumes nothing.
+-- `event::is_status` meets its contract. Assumes nothing.
 use mathlib.Core.Path.{ap, sym, _∙_}
 use borrow.Author.Needs.{needs}
 use Rattle.event.specs.EventRecord.{isNamed}

@@ -1,4 +1,4 @@
--- `events::lengthy` meets its contract. Assumes nothing.
+-- `event::lengthy` meets its contract. Assumes nothing.
 use Rattle.event.proofs.Frame.{some-message}
 use Rattle.event.proofs.lengthy.Statement.{statement}
 use Rattle.event.proofs.lengthy.Tie as tie

@@ -1,4 +1,4 @@
--- `events::message` meets its contract. Assumes nothing.
+-- `event::message` meets its contract. Assumes nothing.
 use lib.ListN.{length, drop}
 use Prim.Native.Nat.{_≤_, _-_}
 use native.Mathlib.Omega.{arith}

@@ -1,21 +1,21 @@
--- `events::read_event` meets its contract. Assumes nothing.
+-- `event::read_event` meets its contract. Assumes nothing.
 use Prim.Native.Nat.{ℕ}
 use mathlib.Core.Path.{_≡_, sym, _∙_}
 use mathlib.Core.Bool.{true, false}
 use mathlib.Core.List.{List}
 use borrow.Author.Needs.{needs}
-use Rattle.event.specs.declared.Reading.{Reading}
+use Rattle.unit.specs.Answered.{Answered, refused}
 use Rattle.event.specs.EventRecord.{framed, fieldsOf, readingOf}
 use Rattle.event.specs.Frame.{EV}
 use Rattle.event.proofs.Frame.{sound}
 use Rattle.event.proofs.read_event.Statement.{statement}
 use Rattle.event.proofs.read_event.Tie as tie
 
-taken : (e : List ℕ) {r : Reading} → framed e ≡ true → r ≡ fieldsOf e → r ≡ readingOf e
+taken : (e : List ℕ) {a : Answered (Unit {0})} → framed e ≡ true → a ≡ fieldsOf e → a ≡ readingOf e
 unfolding readingOf
 taken e f g = rw f g
 
-broken : (e : List ℕ) → framed e ≡ false → Reading.BadFrame ≡ readingOf e
+broken : (e : List ℕ) → framed e ≡ false → refused 2 ≡ readingOf e
 unfolding readingOf
 broken e f = rw f
 

@@ -3,6 +3,8 @@ use mathlib.Core.Path.{sym, ap, _∙_}
 use mathlib.Core.List.{[], _∷_, _++_, append-assoc}
 use native.Mathlib.Omega.{arith}
 use borrow.Author.Needs.{needs}
+use Rattle.record.specs.declared.Slot.{Slot}
+use Rattle.record.specs.LinkRecord.{found}
 use Rattle.lines.specs.Text.{decimal}
 use Rattle.lines.specs.Lines.{stateName, slotText}
 use Rattle.lines.proofs.Texts.{added-then, added-as}
@@ -40,7 +42,7 @@ same-length : tie.Need-same-length
 same-length c = search needs
 
 returns : tie.Need-returns
-returns c = (added-as (ap slotText (sym (c .before .before .before .before .before .enum-told .given .1))) (c .before .before .add .ensures), omega (arith, c .before .before .add .ensures .answer))
+returns c = (added-as (ap (λ (s : Slot). slotText (found s)) (sym (c .before .before .before .before .before .enum-told .given .1))) (c .before .before .add .ensures), omega (arith, c .before .before .add .ensures .answer))
 
 same-length-2 : tie.Need-same-length-2
 same-length-2 c = search needs
@@ -51,7 +53,7 @@ returns-2 c =
     let l = c .before .before .before .before .before .before .before .before .before .before .before .before .before .before .before .slot .given .0 .0 in
     let q1 = added-then (stateName (l .state)) (32 ∷ []) (a .text .now) _ _ (a .a) _ _ (omega (arith, c .before .before .before .before .before .before .before .before .before .before .before .before .before .before .before .before .before .before .pre)) (c .before .before .before .before .before .before .before .before .before .before .before .before .add-state .ensures .0) (c .before .before .before .before .before .before .before .add2 .ensures) in
     let q2 = added-then _ (decimal (l .c1) ++ 10 ∷ []) (a .text .now) _ _ (a .a) _ _ (omega (arith, c .before .before .before .before .before .before .before .before .before .before .before .before .before .before .before .before .before .before .pre)) q1 (c .before .before .add-number .ensures .0) in
-    (added-as (append-assoc (stateName (l .state)) (32 ∷ []) (decimal (l .c1) ++ 10 ∷ []) ∙ ap slotText (sym (c .before .before .before .before .before .before .before .before .before .before .before .before .before .before .before .slot .given .1))) q2, omega (arith, c .before .before .before .before .before .before .before .before .before .before .before .before .add-state .ensures .1, c .before .before .before .before .before .before .before .add2 .ensures .answer, c .before .before .add-number .ensures .1))
+    (added-as (append-assoc (stateName (l .state)) (32 ∷ []) (decimal (l .c1) ++ 10 ∷ []) ∙ ap (λ (s : Slot). slotText (found s)) (sym (c .before .before .before .before .before .before .before .before .before .before .before .before .before .before .before .slot .given .1))) q2, omega (arith, c .before .before .before .before .before .before .before .before .before .before .before .before .add-state .ensures .1, c .before .before .before .before .before .before .before .add2 .ensures .answer, c .before .before .add-number .ensures .1))
 
 pub add-slot-spec : {M : Type 1} → statement M
 add-slot-spec =

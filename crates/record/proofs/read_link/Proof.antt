@@ -5,8 +5,8 @@ use mathlib.Core.Bool.{true, false}
 use mathlib.Core.List.{List}
 use Prim.Native.Nat.{ℕ}
 use lib.ListN.{length}
+use Rattle.unit.specs.Answered.{refused, accepted}
 use Rattle.link.specs.declared.Link.{Link}
-use Rattle.record.specs.declared.Slot.{Slot}
 use Rattle.record.specs.declared.SomeState.{SomeState}
 use Rattle.record.specs.declared.SomeMps.{SomeMps}
 use Rattle.octet.specs.Octets.{at}
@@ -16,11 +16,11 @@ use borrow.Author.Needs.{needs}
 use Rattle.record.proofs.read_link.Statement.{statement}
 use Rattle.record.proofs.read_link.Tie as tie
 
-sound : (r : List ℕ) {l : Link} → length r ≡ 16 → wellFormed r ≡ true → l ≡ linkOf r → Slot.Holds l ≡ slotOf r
+sound : (r : List ℕ) {l : Link} → length r ≡ 16 → wellFormed r ≡ true → l ≡ linkOf r → accepted l ≡ slotOf r
 unfolding slotOf
 sound r n w e = rw (eq-eqb (length r) 16 n, w, e)
 
-broken : (r : List ℕ) → length r ≡ 16 → wellFormed r ≡ false → Slot.IllFormed ≡ slotOf r
+broken : (r : List ℕ) → length r ≡ 16 → wellFormed r ≡ false → refused 6 ≡ slotOf r
 unfolding slotOf
 broken r n w = rw (eq-eqb (length r) 16 n, w)
 

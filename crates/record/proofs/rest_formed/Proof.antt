@@ -5,7 +5,7 @@ use mathlib.Core.Bool.{_&&_, _||_}
 use mathlib.Core.Logic.{⊎-elim}
 use lib.Dec.{eqb, leb}
 use Rattle.octet.specs.Octets.{at, two}
-use Rattle.record.specs.LinkRecord.{restFormed}
+use Rattle.record.specs.Decoded.{restFormed}
 use Rattle.octet.proofs.Branches.{on, off}
 use Rattle.record.proofs.rest_formed.Statement.{statement}
 use Rattle.record.proofs.rest_formed.Tie as tie

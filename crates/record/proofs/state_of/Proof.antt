@@ -6,7 +6,7 @@ use mathlib.Core.List.{[], _∷_}
 use Rattle.table6.proofs.Lists.{MissedFrom, missed-from, past}
 use Rattle.table6.specs.declared.State.{State}
 use Rattle.record.specs.declared.SomeState.{SomeState}
-use Rattle.record.specs.LinkRecord.{someState}
+use Rattle.record.specs.Decoded.{someState}
 use Rattle.record.proofs.state_of.Statement.{statement}
 use Rattle.record.proofs.state_of.Tie as tie
 

@@ -2,7 +2,7 @@
 use mathlib.Core.Path.{refl, sym, ap}
 use Rattle.table6.specs.Stored.{from}
 use Rattle.table6.proofs.Lists.{beyond}
-use Rattle.signal.specs.SignalRecord.{fixedOf, fixedAt}
+use Rattle.signal.specs.Writing.{fixedOf, fixedAt}
 use Rattle.signal.proofs.fixed.Statement.{statement}
 use Rattle.signal.proofs.fixed.Tie as tie
 

@@ -7,7 +7,8 @@ use Prim.Native.Nat.{ℕ}
 use Rattle.table6.specs.Stored.{wordAt}
 use Rattle.link.specs.Stored.{meantBy}
 use Rattle.event.specs.Frame.{linkAt, messageOf}
-use Rattle.signal.specs.SignalRecord.{signalOctets, fromCode, Put, PutCode}
+use Rattle.signal.specs.SignalRecord.{signalOctets, Put}
+use Rattle.signal.specs.Writing.{fromCode, PutCode}
 use Rattle.signal.proofs.SignalRecord.{fixed-known, with-front}
 use Rattle.signal.proofs.put_signal.Statement.{statement}
 use Rattle.signal.proofs.put_signal.Tie as tie

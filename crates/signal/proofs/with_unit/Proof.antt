@@ -18,6 +18,9 @@ slice-aggregate-put-at c = search needs
 put-at-requires : tie.Need-put-at-requires
 put-at-requires c κs = rw (c .before .before .write .ensures) (omega arith)
 
+cast-result : tie.Need-cast-result
+cast-result c = search needs
+
 add-result : tie.Need-add-result
 add-result c = search needs
 
@@ -38,6 +41,7 @@ with-unit-spec =
     write-requires
     slice-aggregate-put-at
     put-at-requires
+    cast-result
     add-result
     same-length
     returns)

@@ -14,7 +14,7 @@ use Rattle.link.specs.Stored.{signalsOf}
 use Rattle.link.specs.Lent.{leftBy, saidBy, replied}
 use Rattle.link.proofs.Lent.{was-illegal, was-legal}
 use Rattle.record.specs.declared.Slot.{Slot}
-use Rattle.record.specs.LinkRecord.{recordOctets, wellFormed, slotOf}
+use Rattle.record.specs.LinkRecord.{recordOctets, wellFormed, slotOf, found}
 use Rattle.event.specs.Frame.{linkAt, codeAt}
 use Rattle.record.proofs.LinkRecord.{SlotTold, slot-tells}
 use Rattle.event.specs.EventRecord.{eventOf}
@@ -45,8 +45,7 @@ inside c = lt-leb _ _ (below c)
 -- what the reading of the record told
 told : (c : tie.After-slot-at) (s : Slot) → c .slot-at .result ≡ s → SlotTold (R (c .before)) s
 told c s e =
-    let r : c .slot-at .result ≡ slotOf (R (c .before)) = c .slot-at .ensures ∙ ap (λ (k : ℕ). slotOf (recordAt (T (c .before)) k)) (named (c .before)) in
-    subst (SlotTold (R (c .before))) (sym r ∙ e) (slot-tells (R (c .before)))
+    slot-tells (R (c .before)) s (ap found (sym e) ∙ c .slot-at .ensures ∙ ap (λ (k : ℕ). slotOf (recordAt (T (c .before)) k)) (named (c .before)))
 
 ill : (c : tie.After-slot-at) → c .slot-at .result ≡ Slot.IllFormed → wellFormed (R (c .before)) ≡ false
 ill c e =

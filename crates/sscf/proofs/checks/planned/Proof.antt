@@ -1,11 +1,11 @@
 -- `checks::planned` meets its contract. Assumes nothing.
-use mathlib.Core.Path.{_≡_, sym, ap, subst, _∙_}
+use mathlib.Core.Path.{_≡_, sym, ap, _∙_}
 use mathlib.Core.Bool.{Bool, true, false, not}
 use mathlib.Core.List.{List}
 use Prim.Native.Nat.{ℕ}
 use lib.ListN.{drop}
 use borrow.Author.Needs.{needs}
-use Rattle.event.specs.EventRecord.{Coded}
+use Rattle.event.specs.EventRecord.{Coded, reading}
 use Rattle.event.specs.declared.Reading.{Reading}
 use Rattle.event.specs.Frame.{EV}
 use Rattle.event.proofs.Frame.{sound}
@@ -37,7 +37,7 @@ good c = sym (c .before .bad-table .ensures) ∙ c .if1 .left
 
 -- what the reading of the event told
 told : (c : tie.After-read-event) (r : Reading) → c .read-event .result ≡ r → ToldOf (c .before .before .before .before .before .args .e .now) r
-told c r e = subst (ToldOf (c .before .before .before .before .before .args .e .now)) (sym (c .read-event .ensures) ∙ e) (reading-tells (c .before .before .before .before .before .args .e .now))
+told c r e = reading-tells (c .before .before .before .before .before .args .e .now) r (ap reading (sym e) ∙ c .read-event .ensures)
 
 read-event-requires : tie.Need-read-event-requires
 read-event-requires c κs = search needs
