@@ -1,6 +1,6 @@
 # `make`: set-up, proof and library, first results to look at, the trace of a short story among them, and a C program over the library. `make test`: the gate.
 # `make install`: the library for C with its header, below PREFIX; DESTDIR goes before that, for packages.
-# `make bench`: what a step costs, against a second machine.
+# `make bench`: what a step costs against a second machine, in instructions and, on x86-64, in time.
 .POSIX:
 .PHONY: all setup library look example install bench test clean
 

@@ -5,7 +5,9 @@
  *
  *     check   see that both machines answer every call as they should, and name the rows
  *     count   make the calls between marks, for a counter of instructions
+ *     time    take the time of the calls
  */
+#define _POSIX_C_SOURCE 199309L /* clock_gettime */
 
 #include <sscf.h>
 
@@ -13,6 +15,7 @@
 
 #include <stdio.h>
 #include <string.h>
+#include <time.h>
 
 /* bench_empty.c */
 void bench_mark(void);
@@ -72,16 +75,19 @@ static const struct bench_case cases[] = {
 enum { CASES = sizeof cases / sizeof *cases };
 
 /*
- * The rows: each case that is one alone, and behind them all that are mixed. These are counted over
- * the whole of their order; of equal calls fewer are enough.
+ * The rows: each case that is one alone, and behind them all that are mixed. These are counted and
+ * timed over the whole of their order. Of equal calls fewer are enough, and the shorter a stretch
+ * the likelier that a busy machine leaves it in peace.
  */
 
 enum { ORDER = 8192 }; /* see below; a multiple of the links of each table */
+enum { EMPTY, OURS, SECOND, MACHINES };
 
 struct row {
     const struct bench_case *kinds[CASES];
-    unsigned many;    /* kinds */
-    unsigned counted; /* calls in a stretch */
+    unsigned many;           /* kinds */
+    unsigned counted, timed; /* calls in a stretch */
+    double least[MACHINES];  /* nanoseconds of a call */
 };
 
 static struct row rows[CASES + 1];
@@ -89,11 +95,11 @@ static size_t rows_made;
 
 static void make_rows(void)
 {
-    struct row mixed = {{0}, 0, ORDER};
+    struct row mixed = {{0}, 0, ORDER, ORDER, {0}};
     size_t i;
 
     for (i = 0; i < CASES; i++) {
-        struct row alone = {{&cases[i]}, 1, 100};
+        struct row alone = {{&cases[i]}, 1, 100, 2048, {0}};
 
         if (cases[i].rows & ALONE)
             rows[rows_made++] = alone;
@@ -156,6 +162,10 @@ static void draw(unsigned many)
     uint32_t random = 2140;
     size_t i;
 
+    if (many == 1) { /* quicker, and it is done very often */
+        memset(order, 0, sizeof order);
+        return;
+    }
     for (i = 0; i < ORDER; i++) {
         random ^= random << 13; /* Marsaglia's xorshift */
         random ^= random >> 17;
@@ -244,7 +254,7 @@ TURNS(turns_empty, struct sscf_answer, empty_step)
 TURNS(turns_ours, struct sscf_answer, sscf_step)
 TURNS(turns_second, struct second_answer, second_step)
 
-static uint32_t (*volatile machines[])(unsigned) = {turns_empty, turns_ours, turns_second};
+static uint32_t (*volatile machines[MACHINES])(unsigned) = {turns_empty, turns_ours, turns_second};
 
 /* Check, count, time. */
 
@@ -288,11 +298,72 @@ static int count(void)
     for (i = 0; i < rows_made; i++) {
         for (j = rows[i].many == 1 ? 0 : TABLES - 1; j < TABLES; j++) {
             set_up(&rows[i], tables[j]);
-            for (k = 0; k < sizeof machines / sizeof *machines; k++) {
+            for (k = 0; k < MACHINES; k++) {
                 machines[k](FEW);
                 machines[k](FEW + rows[i].counted);
             }
         }
+    }
+    return 0;
+}
+
+static double now(void)
+{
+    struct timespec time;
+
+    clock_gettime(CLOCK_MONOTONIC, &time);
+    return (double)time.tv_sec * 1e9 + (double)time.tv_nsec;
+}
+
+/*
+ * Nanoseconds of a call, with the stack moved. Where it lies is chance in each run, and at some
+ * places, alike for every 4,096 octets, a call that copies a message takes a third longer.
+ */
+static double timed(size_t machine, unsigned calls, unsigned moved)
+{
+    volatile uint8_t room[1 + moved];
+    double since;
+
+    (void)(room[0] = 0); /* or there would be none */
+    since = now();
+    machines[machine](calls);
+    return (now() - since) / calls;
+}
+
+/* One machine behind the other, in turn forwards and backwards, and both at every place. */
+static void time_round(struct row *row, unsigned round)
+{
+    enum { PLACES = 64 };
+    size_t i;
+
+    set_up(row, SSCF_LINKS_MAX);
+    for (i = 0; i < MACHINES; i++) {
+        size_t k = round % 2 == 0 ? i : MACHINES - 1 - i;
+        double call = timed(k, row->timed, round / 2 % PLACES * (4096 / PLACES));
+
+        if (round == 0 || call < row->least[k])
+            row->least[k] = call;
+    }
+}
+
+/*
+ * A line for each row: nanoseconds of a call, ours and the second's. All that a busy machine does
+ * to a call makes it longer, so the least of many rounds is nearest to what it takes by itself; and
+ * the rounds of a row are spread over the whole run, so that no one busy spell meets them all.
+ */
+static int time_all(void)
+{
+    enum { ROUNDS = 4096 };
+    unsigned round;
+    size_t i;
+
+    for (round = 0; round < ROUNDS; round++)
+        for (i = 0; i < rows_made; i++)
+            time_round(&rows[i], round);
+    for (i = 0; i < rows_made; i++) {
+        const double *least = rows[i].least;
+
+        printf("%.2f %.2f\n", least[OURS] - least[EMPTY], least[SECOND] - least[EMPTY]);
     }
     return 0;
 }
@@ -304,6 +375,8 @@ int main(int argc, char **argv)
         return check();
     if (argc == 2 && strcmp(argv[1], "count") == 0)
         return count();
-    fputs("usage: bench check|count\n", stderr);
+    if (argc == 2 && strcmp(argv[1], "time") == 0)
+        return time_all();
+    fputs("usage: bench check|count|time\n", stderr);
     return 2;
 }
