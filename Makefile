@@ -1,6 +1,6 @@
 ## make              set-up, proof and library, first results to look at, a short story's trace and chart among them, and a C program over the library
 ## make test         the gate: ends with 'N passed, 0 failed'
-## make bench        what a step costs, against a second machine
+## make bench        what a step costs against a second machine, in instructions and, on x86-64, in time
 ## make install      the library for C, its headers and a pkg-config file, below PREFIX (/usr/local), the archive into LIBDIR (PREFIX/lib);
 ##                   DESTDIR goes before both, for packages
 ## make uninstall    takes them away again

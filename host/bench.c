@@ -1,14 +1,21 @@
 /*
- * What a step costs: each case is stepped by three machines, an empty one, this library and the
- * second machine, on a table of 1 link and in the middle of one of 256, 10 times and 110 times. The
- * script host/bench counts the instructions between the marks and makes a table of them.
+ * What a step costs. Three machines make the same calls, an empty one, this library and the second
+ * machine; a row of the table is one case over and over, or several kinds of them mixed. The script
+ * host/bench makes the table, of what this program says when it is told to
+ *
+ *     check   see that both machines answer every call as they should, and name the rows
+ *     count   make the calls between marks, for a counter of instructions
+ *     time    take the time of the calls
  */
+#define _POSIX_C_SOURCE 199309L /* clock_gettime */
+
 #include <sscf.h>
 
 #include "second.h"
 
 #include <stdio.h>
 #include <string.h>
+#include <time.h>
 
 /* bench_empty.c */
 void bench_mark(void);
@@ -16,10 +23,16 @@ struct sscf_answer empty_step(uint8_t *table, size_t table_octets,
                               const uint8_t *event, size_t event_octets,
                               uint8_t *out, size_t out_octets);
 
-/* The cases: a link, an event for it, and the answer that shows that it is the case meant. */
+/*
+ * The cases: a link, an event for it, and the answer that shows that it is the case meant. A case
+ * is a row alone, or one of the kinds that are mixed, or both.
+ */
+
+enum { ALONE = 1, MIXED = 2, BOTH = ALONE | MIXED };
 
 struct bench_case {
     const char *title;
+    uint8_t rows;
     uint8_t state, flags, timers;
     uint16_t c1;
     uint8_t code, parameter;
@@ -31,35 +44,90 @@ enum { ALIGNING = SSCF_TIMER_T1 | SSCF_TIMER_T2, PROVING = SSCF_TIMER_T2 | SSCF_
 enum { NO_EVENT = 10 }; /* a code that is none of SSCF_EVENT_... */
 
 static const struct bench_case cases[] = {
-    {"T3 expiry while proving",
+    {"T3 expiry while proving", BOTH,
      SSCF_STATE_2_10_3, 0, PROVING, 500, SSCF_EVENT_T3_EXPIRED, 0, 0, SSCF_ACCEPTED, 2},
-    {"T3 expiry that ends it, in service at once",
+    {"T3 expiry that ends it, in service at once", ALONE,
      SSCF_STATE_2_10_3, SSCF_FLAG_INS, PROVING, 0, SSCF_EVENT_T3_EXPIRED, 0, 0, SSCF_ACCEPTED, 5},
-    {"DATA of 273 octets in service",
+    {"DATA of 273 octets in service", BOTH,
      SSCF_STATE_3_10_5, 0, 0, 0, SSCF_EVENT_DATA, 0, 273, SSCF_ACCEPTED, 1},
-    {"DATA of 4,096 octets in service",
+    {"DATA of 4,096 octets in service", ALONE,
      SSCF_STATE_3_10_5, 0, 0, 0, SSCF_EVENT_DATA, 0, 4096, SSCF_ACCEPTED, 1},
-    {"user message of 273 octets in service",
+    {"user message of 273 octets in service", BOTH,
      SSCF_STATE_3_10_5, 0, 0, 0, SSCF_EVENT_MESSAGE_FOR_TRANSMISSION, 0, 273, SSCF_ACCEPTED, 2},
-    {"ESTABLISH-indication with NM in 2/1/2",
+    {"ESTABLISH-indication with NM in 2/1/2", BOTH,
      SSCF_STATE_2_1_2, 0, ALIGNING, 0, SSCF_EVENT_ESTABLISH_INDICATION, SSCF_STATUS_NM, 0,
      SSCF_ACCEPTED, 4},
-    {"EMERGENCY in 1/1/1",
+    {"EMERGENCY in 1/1/1", BOTH,
      SSCF_STATE_1_1_1, 0, 0, 0, SSCF_EVENT_EMERGENCY, 0, 0, SSCF_ACCEPTED, 0},
-    {"an unknown code, refused by 3",
+    {"an unknown code, refused by 3", ALONE,
      SSCF_STATE_3_10_5, 0, 0, 0, NO_EVENT, 0, 0, SSCF_REFUSED_CODE, 0},
-    {"START in service, refused by 8",
+    {"START in service, refused by 8", ALONE,
      SSCF_STATE_3_10_5, 0, 0, 0, SSCF_EVENT_START, 0, 0, SSCF_REFUSED_STATE, 0},
+    {"NM unit while proving", MIXED,
+     SSCF_STATE_2_10_3, 0, PROVING, 500, SSCF_EVENT_DATA, 0, SSCF_UNIT_OCTETS, SSCF_ACCEPTED, 0},
+    {"CONGESTION in service", MIXED,
+     SSCF_STATE_3_10_5, 0, 0, 0, SSCF_EVENT_CONGESTION, 1, 0, SSCF_ACCEPTED, 2},
+    {"RELEASE-indication in service", MIXED,
+     SSCF_STATE_3_10_5, 0, 0, 0, SSCF_EVENT_RELEASE_INDICATION, SSCF_STATUS_OOS, 0,
+     SSCF_ACCEPTED, 2},
 };
 
-/* The buffers of a call, the record that it is about, and that record as each call is to find it. */
+enum { CASES = sizeof cases / sizeof *cases };
 
-static uint8_t table[SSCF_TABLE_OCTETS_MAX];
-static uint8_t event[SSCF_HEAD_OCTETS + SSCF_MESSAGE_OCTETS_MAX];
-static uint8_t out[SSCF_OUTPUT_OCTETS];
-static size_t table_octets, event_octets;
-static uint8_t *record;
-static uint8_t start[SSCF_LINK_OCTETS];
+/*
+ * The rows: each case that is one alone, and behind them all that are mixed. These are counted and
+ * timed over the whole of their order. Of equal calls fewer are enough, and the shorter a stretch
+ * the likelier that a busy machine leaves it in peace.
+ */
+
+enum { ORDER = 8192 }; /* see below; a multiple of the links of each table */
+enum { EMPTY, OURS, SECOND, MACHINES };
+
+struct row {
+    const struct bench_case *kinds[CASES];
+    unsigned many;           /* kinds */
+    unsigned counted, timed; /* calls in a stretch */
+    double least[MACHINES];  /* nanoseconds of a call */
+};
+
+static struct row rows[CASES + 1];
+static size_t rows_made;
+
+static void make_rows(void)
+{
+    struct row mixed = {{0}, 0, ORDER, ORDER, {0}};
+    size_t i;
+
+    for (i = 0; i < CASES; i++) {
+        struct row alone = {{&cases[i]}, 1, 100, 2048, {0}};
+
+        if (cases[i].rows & ALONE)
+            rows[rows_made++] = alone;
+        if (cases[i].rows & MIXED)
+            mixed.kinds[mixed.many++] = &cases[i];
+    }
+    rows[rows_made++] = mixed;
+}
+
+/*
+ * The calls of a row: its kinds in an order drawn at random, always the same one, which begins anew
+ * at its end, and the links of the table in turn. Each call finds its link's record put back. The
+ * order is long because a processor learns a short one by heart: in one of 1,024 the mixed kinds
+ * took the second machine a fourth less time than in this one, in longer ones a hundredth more.
+ */
+
+struct kind {
+    uint8_t start[SSCF_LINK_OCTETS]; /* a link's record as a call is to find it */
+    uint8_t event[SSCF_HEAD_OCTETS + SSCF_MESSAGE_OCTETS_MAX];
+    size_t event_octets;
+};
+
+static struct kind kinds[CASES];
+static uint8_t order[ORDER];
+static uint8_t table[SSCF_TABLE_OCTETS_MAX], out[SSCF_OUTPUT_OCTETS];
+static uint8_t numbers[SSCF_LINKS_MAX][2]; /* of the links, as an event has them */
+static size_t table_octets;
+static unsigned last_link; /* links are a power of two, so that this is a mask too */
 
 static void put_16(uint8_t *at, unsigned value)
 {
@@ -67,71 +135,115 @@ static void put_16(uint8_t *at, unsigned value)
     at[1] = (uint8_t)value;
 }
 
-static void set_up(const struct bench_case *c, unsigned links)
+static void set_up_kind(struct kind *kind, const struct bench_case *c)
 {
-    unsigned link = links / 2;
+    size_t i;
+
+    memcpy(kind->start, table, sizeof kind->start);
+    kind->start[2] = c->state;
+    kind->start[3] = c->flags;
+    kind->start[6] = c->timers;
+    put_16(kind->start + 12, c->c1);
+
+    memset(kind->event, 0, SSCF_HEAD_OCTETS);
+    memcpy(kind->event, "EV", 2);
+    kind->event[4] = c->code;
+    kind->event[5] = c->parameter;
+    put_16(kind->event + 10, c->length);
+    for (i = 0; i < c->length; i++)
+        kind->event[SSCF_HEAD_OCTETS + i] = (uint8_t)(i * 7 + 1);
+    kind->event_octets = SSCF_HEAD_OCTETS + (size_t)c->length;
+    if (c->length == SSCF_UNIT_OCTETS)
+        kind->event[kind->event_octets - 1] = SSCF_STATUS_NM;
+}
+
+static void draw(unsigned many)
+{
+    uint32_t random = 2140;
+    size_t i;
+
+    if (many == 1) { /* quicker, and it is done very often */
+        memset(order, 0, sizeof order);
+        return;
+    }
+    for (i = 0; i < ORDER; i++) {
+        random ^= random << 13; /* Marsaglia's xorshift */
+        random ^= random >> 17;
+        random ^= random << 5;
+        order[i] = (uint8_t)((random >> 16) % many);
+    }
+}
+
+static void set_up(const struct row *row, unsigned links)
+{
     size_t i;
 
     table_octets = (size_t)links * SSCF_LINK_OCTETS;
+    last_link = links - 1;
     sscf_fresh(table, table_octets, SSCF_N1_DEFAULT);
-    record = table + link * SSCF_LINK_OCTETS;
-    memcpy(start, record, sizeof start);
-    start[2] = c->state;
-    start[3] = c->flags;
-    start[6] = c->timers;
-    put_16(start + 12, c->c1);
-
-    memset(event, 0, SSCF_HEAD_OCTETS);
-    memcpy(event, "EV", 2);
-    put_16(event + 2, link);
-    event[4] = c->code;
-    event[5] = c->parameter;
-    put_16(event + 10, c->length);
-    for (i = 0; i < c->length; i++)
-        event[SSCF_HEAD_OCTETS + i] = (uint8_t)(i * 7 + 1);
-    event_octets = SSCF_HEAD_OCTETS + (size_t)c->length;
+    for (i = 0; i < links; i++)
+        put_16(numbers[i], (unsigned)i);
+    for (i = 0; i < row->many; i++)
+        set_up_kind(&kinds[i], row->kinds[i]);
+    draw(row->many);
 }
 
-/* Whether both machines do what the case is meant for, and the same in every octet. */
-static int agreed(const struct bench_case *c)
+/* Makes the link of a call and its event what they are to be, and answers the kind. */
+static inline const struct kind *ready(unsigned call)
 {
-    static uint8_t our_out[sizeof out], our_record[sizeof start];
+    struct kind *kind = &kinds[order[call % ORDER]];
+    unsigned link = call & last_link;
+
+    memcpy(table + link * SSCF_LINK_OCTETS, kind->start, sizeof kind->start);
+    memcpy(kind->event + 2, numbers[link], sizeof numbers[link]);
+    return kind;
+}
+
+/* Whether both machines do what a call is meant for, and the same in every octet. */
+static int agreed(const struct row *row, unsigned call)
+{
+    static uint8_t our_out[sizeof out], our_record[SSCF_LINK_OCTETS];
+    const struct bench_case *due = row->kinds[order[call % ORDER]];
+    const uint8_t *record = table + (call & last_link) * SSCF_LINK_OCTETS;
+    const struct kind *kind;
     struct sscf_answer ours;
     struct second_answer second;
 
     memset(out, 0, sizeof out);
-    memcpy(record, start, sizeof start);
-    ours = sscf_step(table, table_octets, event, event_octets, out, sizeof out);
+    kind = ready(call);
+    ours = sscf_step(table, table_octets, kind->event, kind->event_octets, out, sizeof out);
     memcpy(our_out, out, sizeof out);
-    memcpy(our_record, record, sizeof start);
+    memcpy(our_record, record, sizeof our_record);
 
     memset(out, 0, sizeof out);
-    memcpy(record, start, sizeof start);
-    second = second_step(table, table_octets, event, event_octets, out, sizeof out);
+    kind = ready(call);
+    second = second_step(table, table_octets, kind->event, kind->event_octets, out, sizeof out);
 
-    return ours.refusal == c->refusal && ours.signals == c->signals &&
+    return ours.refusal == due->refusal && ours.signals == due->signals &&
            second.refusal == ours.refusal && second.octets == ours.octets &&
            second.signals == ours.signals && memcmp(out, our_out, sizeof out) == 0 &&
-           memcmp(record, our_record, sizeof start) == 0;
+           memcmp(record, our_record, sizeof our_record) == 0;
 }
 
 /*
- * The calls: one and the same loop for each machine, written three times since they answer by
- * different types. It stands between two marks, and the pointers to it are volatile, so that the
- * compiler cannot make one loop for 10 calls and another for 110: what the two stretches have in
- * common, all but 100 calls, falls out of their difference.
+ * The loop of the calls, one and the same for each machine, written three times since they answer
+ * by different types. It stands between two marks, and the pointers to it are volatile, so that the
+ * compiler cannot make one loop for few calls and another for many: what the two stretches have in
+ * common falls out of their difference.
  */
 #define TURNS(name, type, step)                                                                \
     static uint32_t name(unsigned calls)                                                       \
     {                                                                                          \
         uint32_t sum = 0;                                                                      \
+        unsigned call;                                                                         \
                                                                                                \
         bench_mark();                                                                          \
-        while (calls-- > 0) {                                                                  \
+        for (call = 0; call < calls; call++) {                                                 \
+            const struct kind *kind = ready(call);                                             \
             type answer;                                                                       \
                                                                                                \
-            memcpy(record, start, sizeof start);                                               \
-            answer = step(table, table_octets, event, event_octets, out, sizeof out);          \
+            answer = step(table, table_octets, kind->event, kind->event_octets, out,           \
+                          sizeof out);                                                         \
             sum += answer.refusal + answer.octets + answer.signals;                            \
         }                                                                                      \
         bench_mark();                                                                          \
@@ -142,33 +254,129 @@ TURNS(turns_empty, struct sscf_answer, empty_step)
 TURNS(turns_ours, struct sscf_answer, sscf_step)
 TURNS(turns_second, struct second_answer, second_step)
 
-static uint32_t (*volatile machines[])(unsigned) = {turns_empty, turns_ours, turns_second};
+static uint32_t (*volatile machines[MACHINES])(unsigned) = {turns_empty, turns_ours, turns_second};
 
-static void measure(void)
+/* Check, count, time. */
+
+static const unsigned tables[] = {1, SSCF_LINKS_MAX};
+enum { TABLES = sizeof tables / sizeof *tables };
+
+/* A line for each row: the kinds in it, the calls that are counted, the title. */
+static int check(void)
 {
+    size_t i, j;
+    unsigned call;
+
+    for (i = 0; i < rows_made; i++) {
+        const struct row *row = &rows[i];
+
+        for (j = 0; j < TABLES; j++) {
+            set_up(row, tables[j]);
+            for (call = 0; call < ORDER; call++) {
+                if (!agreed(row, call)) {
+                    printf("%s: not answered as it should be\n", row->kinds[order[call]]->title);
+                    return 1;
+                }
+            }
+        }
+        printf("%u %u ", row->many, row->counted);
+        if (row->many == 1)
+            printf("%s\n", row->kinds[0]->title);
+        else
+            printf("%u kinds in a fixed random order, %u links in turn (average)\n", row->many,
+                   SSCF_LINKS_MAX);
+    }
+    return 0;
+}
+
+/* The mixed kinds, which are many calls for a slow counter, on the large table only. */
+static int count(void)
+{
+    enum { FEW = 10 };
+    size_t i, j, k;
+
+    for (i = 0; i < rows_made; i++) {
+        for (j = rows[i].many == 1 ? 0 : TABLES - 1; j < TABLES; j++) {
+            set_up(&rows[i], tables[j]);
+            for (k = 0; k < MACHINES; k++) {
+                machines[k](FEW);
+                machines[k](FEW + rows[i].counted);
+            }
+        }
+    }
+    return 0;
+}
+
+static double now(void)
+{
+    struct timespec time;
+
+    clock_gettime(CLOCK_MONOTONIC, &time);
+    return (double)time.tv_sec * 1e9 + (double)time.tv_nsec;
+}
+
+/*
+ * Nanoseconds of a call, with the stack moved. Where it lies is chance in each run, and at some
+ * places, alike for every 4,096 octets, a call that copies a message takes a third longer.
+ */
+static double timed(size_t machine, unsigned calls, unsigned moved)
+{
+    volatile uint8_t room[1 + moved];
+    double since;
+
+    (void)(room[0] = 0); /* or there would be none */
+    since = now();
+    machines[machine](calls);
+    return (now() - since) / calls;
+}
+
+/* One machine behind the other, in turn forwards and backwards, and both at every place. */
+static void time_round(struct row *row, unsigned round)
+{
+    enum { PLACES = 64 };
     size_t i;
 
-    for (i = 0; i < sizeof machines / sizeof *machines; i++) {
-        machines[i](10);
-        machines[i](110);
+    set_up(row, SSCF_LINKS_MAX);
+    for (i = 0; i < MACHINES; i++) {
+        size_t k = round % 2 == 0 ? i : MACHINES - 1 - i;
+        double call = timed(k, row->timed, round / 2 % PLACES * (4096 / PLACES));
+
+        if (round == 0 || call < row->least[k])
+            row->least[k] = call;
     }
 }
 
-int main(void)
+/*
+ * A line for each row: nanoseconds of a call, ours and the second's. All that a busy machine does
+ * to a call makes it longer, so the least of many rounds is nearest to what it takes by itself; and
+ * the rounds of a row are spread over the whole run, so that no one busy spell meets them all.
+ */
+static int time_all(void)
 {
-    static const unsigned links[] = {1, SSCF_LINKS_MAX};
-    size_t i, j;
+    enum { ROUNDS = 4096 };
+    unsigned round;
+    size_t i;
 
-    for (i = 0; i < sizeof cases / sizeof *cases; i++) {
-        for (j = 0; j < sizeof links / sizeof *links; j++) {
-            set_up(&cases[i], links[j]);
-            if (!agreed(&cases[i])) {
-                printf("%s: not answered as it should be\n", cases[i].title);
-                return 1;
-            }
-            measure();
-        }
-        puts(cases[i].title);
+    for (round = 0; round < ROUNDS; round++)
+        for (i = 0; i < rows_made; i++)
+            time_round(&rows[i], round);
+    for (i = 0; i < rows_made; i++) {
+        const double *least = rows[i].least;
+
+        printf("%.2f %.2f\n", least[OURS] - least[EMPTY], least[SECOND] - least[EMPTY]);
     }
     return 0;
+}
+
+int main(int argc, char **argv)
+{
+    make_rows();
+    if (argc == 2 && strcmp(argv[1], "check") == 0)
+        return check();
+    if (argc == 2 && strcmp(argv[1], "count") == 0)
+        return count();
+    if (argc == 2 && strcmp(argv[1], "time") == 0)
+        return time_all();
+    fputs("usage: bench check|count|time\n", stderr);
+    return 2;
 }
