@@ -203,6 +203,16 @@ static uint8_t message[SSCF_MESSAGE_OCTETS_MAX];
 
 enum { T1 = SSCF_TIMER_T1, T2 = SSCF_TIMER_T2, T3 = SSCF_TIMER_T3 };
 
+/* The archive is of the header's version, and the header's number says what its text says. */
+static void version(void)
+{
+    unsigned major, minor, patch;
+
+    CHECK(sscf_version() == SSCF_VERSION_NUMBER);
+    CHECK(sscanf(SSCF_VERSION, "%u.%u.%u", &major, &minor, &patch) == 3 &&
+          SSCF_VERSION_NUMBER == 1000000 * major + 1000 * minor + patch);
+}
+
 /* sscf_fresh: as many octets as were lent, and no other. */
 static void fresh_tables(void)
 {
@@ -705,9 +715,9 @@ static void several_wrong(void)
 int main(void)
 {
     static void (*const parts[])(void) = {
-        fresh_tables,   fresh_refusals, first_use,     into_service,   one_life,
-        messages,       timer_orders,   haste,         broken_lengths, broken_frames,
-        broken_fields,  broken_records, states,        several_wrong
+        version,        fresh_tables,   fresh_refusals, first_use,     into_service,
+        one_life,       messages,       timer_orders,   haste,         broken_lengths,
+        broken_frames,  broken_fields,  broken_records, states,        several_wrong
     };
     size_t i;
 

@@ -11,6 +11,8 @@
  *     sscf_step     takes one event for one link, brings that link's record in the table up to
  *                   date, and writes the signals that follow from the event
  *
+ * A third, sscf_version, tells of which version the library is.
+ *
  * The host hands in as an event whatever the link's user, SSCOP, layer management or a timer has
  * to say, and hands the signals on to those they are for. SSCOP itself, the clocks, the monitoring
  * of errors during proving and the detection of congestion are the host's.
@@ -18,8 +20,8 @@
  * The library is for x86-64 Linux. It allocates nothing, keeps nothing between calls and calls
  * nothing back; every call returns, whatever octets it is given. All it knows of the links stands
  * in the table, which is the host's: it may be copied, stored and carried to another process.
- * What the two calls promise, at the end of this header, is proved of the code, for every table
- * and every event.
+ * What the calls promise, at the end of this header, is proved of the code, for every table and
+ * every event.
  *
  * HOW A LINK COMES INTO SERVICE
  *
@@ -106,7 +108,8 @@
 extern "C" {
 #endif
 
-#define SSCF_VERSION "0.1.0"
+#define SSCF_VERSION "0.1.1"
+#define SSCF_VERSION_NUMBER 1001 /* 1,000,000 x 0 + 1,000 x 1 + 1 */
 
 /* LIMITS */
 
@@ -393,6 +396,12 @@ struct sscf_answer {
 struct sscf_answer sscf_step(uint8_t *table, size_t table_octets,
                              const uint8_t *event, size_t event_octets,
                              uint8_t *out, size_t out_octets);
+
+/*
+ * Answers the version of the library that the program was linked with, in the way of
+ * SSCF_VERSION_NUMBER. If the two differ, the header is not the one that belongs to the library.
+ */
+uint32_t sscf_version(void);
 
 #ifdef __cplusplus
 }
