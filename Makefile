@@ -22,7 +22,7 @@ look: library
 	examples/story | host/x86 target/bin/trace
 
 example: library
-	host/run host/example.c
+	host/run host/conformance.c
 
 $(ARCHIVE):
 	rt staticlib sscf

@@ -1,7 +1,7 @@
 /*
- * A host in small: it calls the library as a switch would and checks every octet of what comes
- * back, where all is well and where it is not. What it expects is written down from Q.2140's
- * Table 6 and the layouts in sscf.h; nothing of it is taken from the library.
+ * A test of conformance: it makes the calls and checks every octet of what comes back, where all
+ * is well and where it is not. What it expects is written down from Q.2140's Table 6 and the
+ * layouts in sscf.h; nothing of it is taken from the library.
  */
 #include <sscf.h>
 
@@ -20,7 +20,7 @@ static void check(int ok, const char *what, int line)
         return;
     failures++;
     if (failures <= 20)
-        fprintf(stderr, "example.c:%d: not so: %s (turn %lu)\n", line, what, turn);
+        fprintf(stderr, "conformance.c:%d: not so: %s (turn %lu)\n", line, what, turn);
 }
 
 #define CHECK(ok) check((ok) != 0, #ok, __LINE__)
@@ -727,6 +727,6 @@ int main(void)
         turn = 0;
         parts[i]();
     }
-    printf("example: %lu checks, %lu failed\n", checks, failures);
+    printf("conformance: %lu checks, %lu failed\n", checks, failures);
     return failures == 0 ? 0 : 1;
 }
