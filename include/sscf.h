@@ -146,19 +146,29 @@ extern "C" {
  * octet.
  */
 
-/* States, by Q.2140's triples: as the user sees the link, as SSCOP does, as management does. */
-enum {
-    SSCF_STATE_1_1_1 = 1,  /* out of service, idle */
-    SSCF_STATE_1_4_1 = 2,  /* out of service, SSCOP still to confirm a release */
-    SSCF_STATE_2_1_2 = 3,  /* alignment, idle until T1 expires or the peer connects */
-    SSCF_STATE_2_2_2 = 4,  /* alignment, SSCOP still to confirm the connection */
-    SSCF_STATE_2_4_2 = 5,  /* alignment, SSCOP still to confirm a release */
-    SSCF_STATE_2_10_3 = 6, /* proving */
-    SSCF_STATE_2_10_4 = 7, /* aligned ready: own INS unit sent, the peer's awaited */
-    SSCF_STATE_3_10_5 = 8  /* in service */
+/* Out of service are both 1 and 2, in service is 8 alone. */
+enum sscf_state {
+    SSCF_STATE_OUT_OF_SERVICE = 1,
+    SSCF_STATE_OUT_OF_SERVICE_RELEASING = 2, /* SSCOP still to confirm a release */
+    SSCF_STATE_ALIGNMENT_IDLE = 3,           /* until T1 expires or the peer connects */
+    SSCF_STATE_ALIGNMENT_CONNECTING = 4,     /* SSCOP still to confirm the connection */
+    SSCF_STATE_ALIGNMENT_RELEASING = 5,      /* SSCOP still to confirm a release */
+    SSCF_STATE_PROVING = 6,
+    SSCF_STATE_ALIGNED_READY = 7,            /* own INS unit sent, the peer's awaited */
+    SSCF_STATE_IN_SERVICE = 8,
+
+    /* The same by Q.2140's triples: as the user sees the link, as SSCOP does, as management does. */
+    SSCF_STATE_1_1_1 = 1,
+    SSCF_STATE_1_4_1 = 2,
+    SSCF_STATE_2_1_2 = 3,
+    SSCF_STATE_2_2_2 = 4,
+    SSCF_STATE_2_4_2 = 5,
+    SSCF_STATE_2_10_3 = 6,
+    SSCF_STATE_2_10_4 = 7,
+    SSCF_STATE_3_10_5 = 8
 };
 
-enum {
+enum sscf_flag {
     SSCF_FLAG_INS = 1, /* the peer's INS unit came during proving; 0 again with a new connection */
     SSCF_FLAG_LPO = 2  /* local processor outage */
 };
@@ -170,11 +180,11 @@ enum {
  * MPS stays until management changes it; UPS falls back to Normal when the link goes out of
  * service or the user stops it.
  */
-enum { SSCF_MPS_NEUTRAL = 0, SSCF_MPS_NORMAL = 1, SSCF_MPS_EMERGENCY = 2 };
-enum { SSCF_UPS_NORMAL = 0, SSCF_UPS_EMERGENCY = 1 };
+enum sscf_mps { SSCF_MPS_NEUTRAL = 0, SSCF_MPS_NORMAL = 1, SSCF_MPS_EMERGENCY = 2 };
+enum sscf_ups { SSCF_UPS_NORMAL = 0, SSCF_UPS_EMERGENCY = 1 };
 
 /* The times are Q.2140's defaults. */
-enum {
+enum sscf_timer {
     SSCF_TIMER_T1 = 1, /* from a failed attempt at a connection to the next one: 5 seconds */
     SSCF_TIMER_T2 = 2, /* all of alignment, until the link is in service or given up: 30 seconds */
     SSCF_TIMER_T3 = 4  /* between proving units, so that they load the link to about one half */
@@ -204,7 +214,7 @@ enum {
  * signal the host makes the field 0, 0, 0, status; of a field that came it hands in the status, and
  * 0 where no field came or its status is none of these.
  */
-enum {
+enum sscf_status {
     SSCF_STATUS_OOS = 1, /* Out of Service */
     SSCF_STATUS_PO = 2,  /* Processor Outage */
     SSCF_STATUS_INS = 3, /* In Service */
@@ -227,7 +237,7 @@ enum {
  * number of the last message received (RETRIEVE_BSNT), and for those of its own messages that the
  * peer has not accepted, FSNC being the last it has (RETRIEVAL_REQUEST_AND_FSNC).
  */
-enum {
+enum sscf_event {
     /* From the user. */
     SSCF_EVENT_MESSAGE_FOR_TRANSMISSION = 1,   /* message, 5 to 4,096 octets      .......8 */
     SSCF_EVENT_EMERGENCY = 2,                  /*                                 1234567. */
@@ -276,7 +286,7 @@ enum {
 };
 
 /* Who released the connection, the number of RELEASE_INDICATION. */
-enum { SSCF_SOURCE_USER = 0, SSCF_SOURCE_SSCOP = 1 };
+enum sscf_source { SSCF_SOURCE_USER = 0, SSCF_SOURCE_SSCOP = 1 };
 
 /*
  * SIGNALS
@@ -284,7 +294,7 @@ enum { SSCF_SOURCE_USER = 0, SSCF_SOURCE_SSCOP = 1 };
  * They come in the order of Q.2140's Table 6, the timer orders last: resets before sets, T1 first.
  * All signals of a step are for the link of its event.
  */
-enum {
+enum sscf_signal {
     /* To the user. */
     SSCF_SIGNAL_RECEIVED_MESSAGE = 1,      /* message, 5 to 4,096 octets */
     SSCF_SIGNAL_LINK_CONGESTED = 2,        /* octet 5: the level, 0 to 3 */
@@ -321,18 +331,19 @@ enum {
 };
 
 /* A REPORT has a value in each of octets 6, 7 and 8; 0 is Q.2140's "-", nothing to report. */
-enum {
-    /* octet 6, towards SSCOP */
-    SSCF_REPORT_LOWER_LR = 1,       /* Local Release */
-    SSCF_REPORT_LOWER_RR = 2,       /* Remote Release */
-    SSCF_REPORT_LOWER_SR = 3,       /* SSCOP Release */
+enum sscf_report_lower { /* octet 6, towards SSCOP */
+    SSCF_REPORT_LOWER_LR = 1, /* Local Release */
+    SSCF_REPORT_LOWER_RR = 2, /* Remote Release */
+    SSCF_REPORT_LOWER_SR = 3  /* SSCOP Release */
+};
 
-    /* octet 7, towards the user */
-    SSCF_REPORT_UPPER_OOS = 1,      /* Out Of Service */
-    SSCF_REPORT_UPPER_INS = 2,      /* In Service */
-    SSCF_REPORT_UPPER_ALN = 3,      /* Alignment */
+enum sscf_report_upper { /* octet 7, towards the user */
+    SSCF_REPORT_UPPER_OOS = 1, /* Out Of Service */
+    SSCF_REPORT_UPPER_INS = 2, /* In Service */
+    SSCF_REPORT_UPPER_ALN = 3  /* Alignment */
+};
 
-    /* octet 8, the reason */
+enum sscf_report_reason { /* octet 8 */
     SSCF_REPORT_REASON_ANS = 1,     /* Alignment Not Successful */
     SSCF_REPORT_REASON_CC = 2,      /* Congestion Ceased */
     SSCF_REPORT_REASON_CD = 3,      /* Congestion Detected */
@@ -349,7 +360,7 @@ enum {
  * Each is given exactly where it is listed, and the checks are made in this order: where several
  * things are wrong the lowest number is answered.
  */
-enum {
+enum sscf_refusal {
     SSCF_ACCEPTED = 0,
     SSCF_REFUSED_TABLE = 1,  /* table empty, not a multiple of 16 octets, or over 4,096 */
     SSCF_REFUSED_FRAME = 2,  /* event under 12 octets, its mark not "EV", octet 9 not 0, length
