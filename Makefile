@@ -1,5 +1,5 @@
 # `make`: set-up, proof and library, first results to look at, the trace of a short story among them, and a C program over the library. `make test`: the gate.
-# `make install`: the library for C with its header, below PREFIX; DESTDIR goes before that, for packages.
+# `make install`: the library for C with its headers, below PREFIX; DESTDIR goes before that, for packages.
 # `make bench`: what a step costs, against a second machine.
 .POSIX:
 .PHONY: all setup library look example install bench test clean
@@ -30,7 +30,7 @@ $(ARCHIVE):
 # The version stands in the header alone.
 install: $(ARCHIVE)
 	install -d '$(DESTDIR)$(PREFIX)/include' '$(DESTDIR)$(PREFIX)/lib/pkgconfig'
-	install -m 644 include/sscf.h '$(DESTDIR)$(PREFIX)/include/sscf.h'
+	install -m 644 include/sscf.h include/sscf_host.h '$(DESTDIR)$(PREFIX)/include'
 	install -m 644 $(ARCHIVE) '$(DESTDIR)$(PREFIX)/lib/libsscf.a'
 	version=$$(sed -n 's/^#define SSCF_VERSION "\(.*\)"$$/\1/p' include/sscf.h) && \
 	sed -e 's|@PREFIX@|$(PREFIX)|' -e "s|@VERSION@|$$version|" include/sscf.pc.in | \

@@ -3,7 +3,7 @@
  * is well and where it is not. What it expects is written down from Q.2140's Table 6 and the
  * layouts in sscf.h; nothing of it is taken from the library.
  */
-#include <sscf.h>
+#include <sscf_host.h>
 
 #include <stdio.h>
 #include <string.h>
@@ -48,32 +48,10 @@ static size_t want_octets, want_signals;              /* as it should answer */
 
 /* Records */
 
-static void put_16(uint8_t *at, size_t value)
-{
-    at[0] = (uint8_t)(value >> 8);
-    at[1] = (uint8_t)value;
-}
-
 /* Three octets as the number they stand for: a REPORT's values, or a number as people write it. */
 static uint32_t three(unsigned first, unsigned second, unsigned third)
 {
     return (uint32_t)first << 16 | (uint32_t)second << 8 | third;
-}
-
-static size_t put_record(uint8_t *at, const char *mark, unsigned link, unsigned code,
-                         unsigned parameter, uint32_t number, const uint8_t *message, size_t length)
-{
-    memcpy(at, mark, 2);
-    put_16(at + 2, link);
-    at[4] = (uint8_t)code;
-    at[5] = (uint8_t)parameter;
-    at[6] = (uint8_t)(number >> 16);
-    put_16(at + 7, number & 0xffff);
-    at[9] = 0;
-    put_16(at + 10, length);
-    if (length > 0)
-        memcpy(at + SSCF_HEAD_OCTETS, message, length);
-    return SSCF_HEAD_OCTETS + length;
 }
 
 /* A link with nothing forced, no haste and no BSNT. */
@@ -84,11 +62,11 @@ static void put_link(unsigned link, unsigned state, unsigned flags, unsigned tim
 
     memset(record, 0, SSCF_LINK_OCTETS);
     memcpy(record, "LK", 2);
-    record[2] = (uint8_t)state;
-    record[3] = (uint8_t)flags;
-    record[6] = (uint8_t)timers;
-    put_16(record + 12, c1);
-    put_16(record + 14, n1);
+    record[SSCF_LINK_AT_STATE] = (uint8_t)state;
+    record[SSCF_LINK_AT_FLAGS] = (uint8_t)flags;
+    record[SSCF_LINK_AT_TIMERS] = (uint8_t)timers;
+    sscf_put_16(record + SSCF_LINK_AT_C1, c1);
+    sscf_put_16(record + SSCF_LINK_AT_N1, n1);
 }
 
 /* A new table of links out of service, amid octets that the calls must leave alone. */
@@ -121,7 +99,8 @@ static void want_nothing(void)
 static void put_event(unsigned link, unsigned code, unsigned parameter, uint32_t number,
                       const uint8_t *message, size_t length)
 {
-    event_octets = put_record(now.event, "EV", link, code, parameter, number, message, length);
+    event_octets = sscf_put_event(now.event, sizeof now.event, link, code, parameter, number,
+                                  message, length);
     want_nothing();
 }
 
@@ -130,11 +109,15 @@ static void put_bare_event(unsigned link, unsigned code)
     put_event(link, code, 0, 0, NULL, 0);
 }
 
+/* A signal's record is an event's with another mark. */
 static void want_signal(unsigned link, unsigned code, unsigned parameter, uint32_t number,
                         const uint8_t *message, size_t length)
 {
-    want_octets += put_record(want.out + want_octets, "SG", link, code, parameter, number, message,
-                              length);
+    uint8_t *signal = want.out + want_octets;
+
+    want_octets += sscf_put_event(signal, sizeof want.out - want_octets, link, code, parameter,
+                                  number, message, length);
+    memcpy(signal + SSCF_HEAD_AT_MARK, "SG", 2);
     want_signals++;
 }
 
@@ -152,19 +135,18 @@ static void want_link(unsigned link, unsigned state, unsigned flags, unsigned ti
 {
     uint8_t *record = want.table + SSCF_LINK_OCTETS * link;
 
-    record[2] = (uint8_t)state;
-    record[3] = (uint8_t)flags;
-    record[6] = (uint8_t)timers;
-    put_16(record + 12, c1);
+    record[SSCF_LINK_AT_STATE] = (uint8_t)state;
+    record[SSCF_LINK_AT_FLAGS] = (uint8_t)flags;
+    record[SSCF_LINK_AT_TIMERS] = (uint8_t)timers;
+    sscf_put_16(record + SSCF_LINK_AT_C1, c1);
 }
 
 static void want_bsnt(unsigned link, uint32_t number)
 {
     uint8_t *record = want.table + SSCF_LINK_OCTETS * link;
 
-    record[7] = 1;
-    record[8] = (uint8_t)(number >> 16);
-    put_16(record + 9, number & 0xffff);
+    record[SSCF_LINK_AT_BSNT_KNOWN] = 1;
+    sscf_put_24(record + SSCF_LINK_AT_BSNT, number);
 }
 
 /* The calls. A buffer of no octets is lent as a null pointer. */
@@ -247,7 +229,7 @@ static void fresh_refusals(void)
     FRESH(4112, 0, 1);
 }
 
-/* The first use in sscf.h, as it stands there. */
+/* The first uses in sscf.h and in sscf_host.h, as they stand there. */
 static void first_use(void)
 {
     uint8_t table[4 * SSCF_LINK_OCTETS];
@@ -270,6 +252,23 @@ static void first_use(void)
         CHECK(signal[4] == codes[n]);
         signal += SSCF_HEAD_OCTETS + length;
     }
+}
+
+static void first_use_by_helpers(void)
+{
+    static const char *const names[4] = {"AA-ESTABLISH-request", "MAAL-REPORT-indication", "Set T2"};
+    uint8_t table[4 * SSCF_LINK_OCTETS], out[SSCF_OUTPUT_OCTETS], event[SSCF_HEAD_OCTETS];
+    size_t octets = sscf_put_bare_event(event, sizeof event, 2, SSCF_EVENT_START);
+    struct sscf_answer answer;
+    const uint8_t *signal;
+
+    sscf_fresh(table, sizeof table, SSCF_N1_DEFAULT);
+    answer = sscf_step(table, sizeof table, event, octets, out, sizeof out);
+    CHECK(strcmp(sscf_refusal_name(answer.refusal), "accepted") == 0);
+    for (signal = sscf_first_signal(out, answer); signal != NULL && names[turn] != NULL;
+         signal = sscf_next_signal(out, answer, signal))
+        CHECK(strcmp(sscf_signal_name(signal[SSCF_HEAD_AT_CODE]), names[turn++]) == 0);
+    CHECK(signal == NULL && turn == 3);
 }
 
 /* The run that document 01 prints in whole: the last proving unit, then the INS unit where the
@@ -480,8 +479,8 @@ static void haste(void)
 
                 turn = 100 * mps + 10 * ups + peer;
                 set_up(1);
-                now.table[4] = (uint8_t)mps;
-                now.table[5] = (uint8_t)ups;
+                now.table[SSCF_LINK_AT_MPS] = (uint8_t)mps;
+                now.table[SSCF_LINK_AT_UPS] = (uint8_t)ups;
                 put_bare_event(0, SSCF_EVENT_START);
                 want_link(0, SSCF_STATE_2_2_2, 0, T2, 0);
                 want_signal(0, SSCF_SIGNAL_ESTABLISH_REQUEST,
@@ -506,7 +505,7 @@ static void broken_lengths(void)
 
     set_up(SSCF_LINKS_MAX);
     put_bare_event(255, SSCF_EVENT_EMERGENCY);
-    want.table[255 * SSCF_LINK_OCTETS + 5] = SSCF_UPS_EMERGENCY;
+    want.table[255 * SSCF_LINK_OCTETS + SSCF_LINK_AT_UPS] = SSCF_UPS_EMERGENCY;
     STEP(SSCF_ACCEPTED);
     for (i = 0; i < sizeof tables / sizeof *tables; i++) {
         turn = i;
@@ -552,7 +551,7 @@ static void broken_frames(void)
         set_up(1);
         put_bare_event(0, SSCF_EVENT_UNITDATA);
         now.event[frames[i].at] = frames[i].value;
-        put_16(now.event + 10, frames[i].length);
+        sscf_put_16(now.event + SSCF_HEAD_AT_LENGTH, frames[i].length);
         event_octets = frames[i].octets;
         want_nothing();
         STEP(SSCF_REFUSED_FRAME);
@@ -690,19 +689,19 @@ static void several_wrong(void)
         if (wrong & 1u << 0)
             table_octets--;
         if (wrong & 1u << 1)
-            now.event[9] = 1;
+            now.event[SSCF_HEAD_AT_ZERO] = 1;
         if (wrong & 1u << 2)
-            now.event[4] = 51;
+            now.event[SSCF_HEAD_AT_CODE] = 51;
         if (wrong & 1u << 3)
-            now.event[5] = 1;
+            now.event[SSCF_HEAD_AT_PARAMETER] = 1;
         if (wrong & 1u << 4)
-            now.event[3] = 3;
+            sscf_put_16(now.event + SSCF_HEAD_AT_LINK, 3);
         if (wrong & 1u << 5)
-            record[0] = 'X';
+            record[SSCF_LINK_AT_MARK] = 'X';
         if (wrong & 1u << 6)
-            record[6] = T2;
+            record[SSCF_LINK_AT_TIMERS] = T2;
         if (wrong & 1u << 7)
-            record[2] = SSCF_STATE_1_1_1;
+            record[SSCF_LINK_AT_STATE] = SSCF_STATE_1_1_1;
         if (wrong & 1u << 8)
             out_octets = 4191;
         for (lowest = 1; (wrong >> (lowest - 1) & 1) == 0; lowest++)
@@ -715,9 +714,10 @@ static void several_wrong(void)
 int main(void)
 {
     static void (*const parts[])(void) = {
-        version,        fresh_tables,   fresh_refusals, first_use,     into_service,
-        one_life,       messages,       timer_orders,   haste,         broken_lengths,
-        broken_frames,  broken_fields,  broken_records, states,        several_wrong
+        version,       fresh_tables,   fresh_refusals, first_use,     first_use_by_helpers,
+        into_service,  one_life,       messages,       timer_orders,  haste,
+        broken_lengths, broken_frames, broken_fields,  broken_records, states,
+        several_wrong
     };
     size_t i;
 

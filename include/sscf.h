@@ -157,7 +157,7 @@ enum sscf_state {
     SSCF_STATE_ALIGNED_READY = 7,            /* own INS unit sent, the peer's awaited */
     SSCF_STATE_IN_SERVICE = 8,
 
-    /* The same by Q.2140's triples: as the user sees the link, as SSCOP does, as management does. */
+    /* The same by Q.2140's triples: as the user sees the link, as SSCOP does, as management. */
     SSCF_STATE_1_1_1 = 1,
     SSCF_STATE_1_4_1 = 2,
     SSCF_STATE_2_1_2 = 3,
