@@ -1,4 +1,5 @@
-# `make`: set-up, proof and library, first results to look at, the trace of a short story among them, and a C program over the library. `make test`: the gate.
+# `make`: set-up, proof and library, first results to look at, the trace of a short story among them, and two C programs over the library: a host to copy, and
+# the test of conformance. `make test`: the gate.
 # `make install`: the library for C with its headers, below PREFIX; DESTDIR goes before that, for packages.
 # `make bench`: what a step costs, against a second machine.
 .POSIX:
@@ -22,6 +23,7 @@ look: library
 	examples/story | host/x86 target/bin/trace
 
 example: library
+	host/run examples/host.c
 	host/run host/conformance.c
 
 $(ARCHIVE):
