@@ -256,7 +256,8 @@ static void first_use(void)
 
 static void first_use_by_helpers(void)
 {
-    static const char *const names[4] = {"AA-ESTABLISH-request", "MAAL-REPORT-indication", "Set T2"};
+    static const char *const names[] = {"AA-ESTABLISH-request", "MAAL-REPORT-indication", "Set T2",
+                                        NULL};
     uint8_t table[4 * SSCF_LINK_OCTETS], out[SSCF_OUTPUT_OCTETS], event[SSCF_HEAD_OCTETS];
     size_t octets = sscf_put_bare_event(event, sizeof event, 2, SSCF_EVENT_START);
     struct sscf_answer answer;
@@ -675,6 +676,102 @@ static void states(void)
                 }
 }
 
+/* Events that crossed, as sscf.h tells of them under the refusals: those that came too late are
+ * refused, and the link takes what follows. A DATA brings the peer's INS unit. */
+static void crossings(void)
+{
+    static const struct {
+        uint8_t state, timers;
+        struct {
+            uint8_t code, parameter, refusal, state;
+        } events[6];
+    } runs[] = {
+        /* expiries of timers just reset */
+        {3, 1 + 2, {{SSCF_EVENT_ESTABLISH_INDICATION, SSCF_STATUS_NM, 0, 6},
+                    {SSCF_EVENT_T1_EXPIRED, 0, 7, 6}}},
+        {7, 2, {{SSCF_EVENT_DATA, 0, 0, 8}, {SSCF_EVENT_T2_EXPIRED, 0, 7, 8}}},
+        {6, 2 + 4, {{SSCF_EVENT_RELEASE_INDICATION, SSCF_STATUS_OOS, 0, 3},
+                    {SSCF_EVENT_T3_EXPIRED, 0, 7, 3}}},
+        /* a release that is confirmed after the next START */
+        {1, 0, {{SSCF_EVENT_START, 0, 0, 4},
+                {SSCF_EVENT_STOP, 0, 0, 2},
+                {SSCF_EVENT_START, 0, 0, 4},
+                {SSCF_EVENT_RELEASE_CONFIRM, 0, 8, 4},
+                {SSCF_EVENT_ESTABLISH_CONFIRM, SSCF_STATUS_NM, 0, 6}}},
+        /* two ends that connect at once */
+        {1, 0, {{SSCF_EVENT_START, 0, 0, 4},
+                {SSCF_EVENT_ESTABLISH_INDICATION, SSCF_STATUS_NM, 8, 4},
+                {SSCF_EVENT_ESTABLISH_CONFIRM, SSCF_STATUS_NM, 0, 6}}},
+        {1, 0, {{SSCF_EVENT_START, 0, 0, 4},
+                {SSCF_EVENT_ESTABLISH_INDICATION, SSCF_STATUS_NM, 8, 4},
+                {SSCF_EVENT_T2_EXPIRED, 0, 0, 2}}},
+        /* what SSCOP still says of a connection given up */
+        {4, 2, {{SSCF_EVENT_STOP, 0, 0, 2},
+                {SSCF_EVENT_ESTABLISH_CONFIRM, SSCF_STATUS_NM, 8, 2},
+                {SSCF_EVENT_RELEASE_CONFIRM, 0, 0, 1}}},
+        {8, 0, {{SSCF_EVENT_STOP, 0, 0, 2},
+                {SSCF_EVENT_DATA, 0, 8, 2},
+                {SSCF_EVENT_RESYNC, 0, 8, 2},
+                {SSCF_EVENT_RECOVER, 0, 8, 2},
+                {SSCF_EVENT_RELEASE_INDICATION, SSCF_STATUS_OOS, 8, 2},
+                {SSCF_EVENT_RELEASE_CONFIRM, 0, 0, 1}}},
+        {6, 2 + 4, {{SSCF_EVENT_CONGESTION, 1, 0, 5},
+                    {SSCF_EVENT_DATA, 0, 8, 5},
+                    {SSCF_EVENT_RESYNC, 0, 8, 5},
+                    {SSCF_EVENT_RECOVER, 0, 8, 5},
+                    {SSCF_EVENT_RELEASE_INDICATION, SSCF_STATUS_OOS, 8, 5},
+                    {SSCF_EVENT_RELEASE_CONFIRM, 0, 0, 3}}},
+        {4, 2, {{SSCF_EVENT_ESTABLISH_CONFIRM, 0, 0, 5}, /* without a field: given up by PE */
+                {SSCF_EVENT_ESTABLISH_CONFIRM, SSCF_STATUS_NM, 8, 5},
+                {SSCF_EVENT_RELEASE_CONFIRM, 0, 0, 3}}},
+        /* users that have not heard yet */
+        {8, 0, {{SSCF_EVENT_RELEASE_INDICATION, SSCF_STATUS_OOS, 0, 1},
+                {SSCF_EVENT_MESSAGE_FOR_TRANSMISSION, 0, 8, 1},
+                {SSCF_EVENT_STOP, 0, 8, 1}}},
+        {7, 2, {{SSCF_EVENT_DATA, 0, 0, 8},
+                {SSCF_EVENT_EMERGENCY, 0, 8, 8},
+                {SSCF_EVENT_EMERGENCY_CEASES, 0, 8, 8}}},
+        /* management that has not heard yet */
+        {6, 2 + 4, {{SSCF_EVENT_T3_EXPIRED, 0, 0, 7}, {SSCF_EVENT_PROVING_UNSUCCESSFUL, 0, 8, 7}}},
+        {6, 2 + 4, {{SSCF_EVENT_STOP, 0, 0, 2}, {SSCF_EVENT_PROVING_UNSUCCESSFUL, 0, 8, 2}}},
+        /* a retrieval that goes on after the next START */
+        {1, 0, {{SSCF_EVENT_RETRIEVAL_REQUEST_AND_FSNC, 0, 0, 1},
+                {SSCF_EVENT_START, 0, 0, 4},
+                {SSCF_EVENT_RETRIEVE, 0, 8, 4},
+                {SSCF_EVENT_RETRIEVE_COMPLETE, 0, 8, 4}}},
+        /* what must not be handed in late: it is taken for the present connection's */
+        {1, 0, {{SSCF_EVENT_START, 0, 0, 4},
+                {SSCF_EVENT_STOP, 0, 0, 2},
+                {SSCF_EVENT_START, 0, 0, 4},
+                {SSCF_EVENT_ESTABLISH_CONFIRM, SSCF_STATUS_NM, 0, 6}}},
+        {8, 0, {{SSCF_EVENT_STOP, 0, 0, 2},
+                {SSCF_EVENT_START, 0, 0, 4},
+                {SSCF_EVENT_RELEASE_INDICATION, SSCF_STATUS_OOS, 0, 3}}}
+    };
+    size_t run, i;
+
+    for (run = 0; run < sizeof runs / sizeof *runs; run++) {
+        set_up(1);
+        put_link(0, runs[run].state, 0, runs[run].timers, 0, 1);
+        for (i = 0; i < 6 && runs[run].events[i].code != 0; i++) {
+            const unsigned code = runs[run].events[i].code;
+            const uint32_t refusal = runs[run].events[i].refusal;
+            const int longer = code == SSCF_EVENT_MESSAGE_FOR_TRANSMISSION ||
+                               code == SSCF_EVENT_RETRIEVE;
+
+            turn = 10 * run + i;
+            put_event(0, code, runs[run].events[i].parameter, 0, longer ? message : ins_unit,
+                      longer ? 5 : code == SSCF_EVENT_DATA ? 4 : 0);
+            if (refusal != SSCF_ACCEPTED)
+                STEP(refusal);
+            else
+                CHECK(sscf_step(now.table, 16, now.event, event_octets, now.out, out_octets)
+                          .refusal == SSCF_ACCEPTED);
+            CHECK(now.table[SSCF_LINK_AT_STATE] == runs[run].events[i].state);
+        }
+    }
+}
+
 /* Several things wrong at once, in each of the 511 ways: the lowest number is answered. */
 static void several_wrong(void)
 {
@@ -717,7 +814,7 @@ int main(void)
         version,       fresh_tables,   fresh_refusals, first_use,     first_use_by_helpers,
         into_service,  one_life,       messages,       timer_orders,  haste,
         broken_lengths, broken_frames, broken_fields,  broken_records, states,
-        several_wrong
+        crossings,     several_wrong
     };
     size_t i;
 

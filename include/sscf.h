@@ -11,7 +11,7 @@
  *     sscf_step     takes one event for one link, brings that link's record in the table up to
  *                   date, and writes the signals that follow from the event
  *
- * A third, sscf_version, tells of which version the library is.
+ * A third, sscf_version, tells the version.
  *
  * The host hands in as an event whatever the link's user, SSCOP, layer management or a timer has
  * to say, and hands the signals on to those they are for. SSCOP itself, the clocks, the monitoring
@@ -22,6 +22,13 @@
  * in the table, which is the host's: it may be copied, stored and carried to another process.
  * What the calls promise, at the end of this header, is proved of the code, for every table and
  * every event.
+ *
+ * Of the C library it needs memmove and nothing else; a later version may also need memcpy, memset,
+ * memcmp or bcmp. A step takes at most 256 octets of stack, memmove's own not counted, the other
+ * calls their return address alone. (In 0.1.1 a step takes 200: by the archive's listing six
+ * registers saved, 136 octets and two return addresses, and as many were seen on a painted stack,
+ * with every event in every state. glibc's memmove takes none, but where it is bound lazily its
+ * first call runs the dynamic loader, which took 3 KB there.)
  *
  * HOW A LINK COMES INTO SERVICE
  *
@@ -70,6 +77,9 @@
  *         signal += SSCF_HEAD_OCTETS + length;
  *     }
  *
+ * sscf_host.h, beside this header, has inline functions for this and the names of all codes as
+ * strings. A whole host to copy is examples/host.c of the sources.
+ *
  * WHAT THE HOST SEES TO
  *
  * These are the only things that the library cannot test.
@@ -90,6 +100,9 @@
  *   running by itself. An expiry that comes after its timer was reset is refused, does no harm and
  *   can be dropped; one from before a reset must not be handed in after the next set, since nothing
  *   tells the two apart.
+ * - What SSCOP said before a RELEASE_REQUEST reached it is not handed in after the next START. In
+ *   state 4 an ESTABLISH_CONFIRM or RELEASE_INDICATION of the connection before would be taken for
+ *   one of the present connection.
  * - Nothing but sscf_fresh and sscf_step writes into the table, and they only as their table. Each
  *   call is lent the whole of it, from the first record to the last, and no octet of it lies in the
  *   out of any call, one on another table among them. A record that came there in another way is
@@ -183,7 +196,16 @@ enum sscf_flag {
 enum sscf_mps { SSCF_MPS_NEUTRAL = 0, SSCF_MPS_NORMAL = 1, SSCF_MPS_EMERGENCY = 2 };
 enum sscf_ups { SSCF_UPS_NORMAL = 0, SSCF_UPS_EMERGENCY = 1 };
 
-/* The times are Q.2140's defaults. */
+/*
+ * The times are Q.2140's defaults. T3 has no number there: it is to be "such that loading of the
+ * signalling link is approximately 50% of its nominal cell rate" (Table 5). The other defaults are
+ * for 64 kbit/s, which makes T3 some 13 ms: a proving unit is one cell, and a cell takes 6.6 ms.
+ *
+ * Proving takes n1 + 1 expiries of T3, the last for the INS unit. They must fit into T2, which runs
+ * from START on, at both ends, with time left for the connection itself. Else T2 ends every
+ * attempt: with n1 = 1000 and T2 of 30 seconds, a link that proves with T3 of 31 ms is never in
+ * service, nor one with 30.
+ */
 enum sscf_timer {
     SSCF_TIMER_T1 = 1, /* from a failed attempt at a connection to the next one: 5 seconds */
     SSCF_TIMER_T2 = 2, /* all of alignment, until the link is in service or given up: 30 seconds */
@@ -359,6 +381,31 @@ enum sscf_report_reason { /* octet 8 */
  *
  * Each is given exactly where it is listed, and the checks are made in this order: where several
  * things are wrong the lowest number is answered.
+ *
+ * 1 to 6 and 9 are faults of the host: a wrong length, an event written wrong, a record that
+ * something else wrote into. The same call is refused again, so they are to be logged and mended.
+ * After 6 the link is lost, until its record comes back from a copy or the table is made anew.
+ *
+ * 7 and 8 can be its faults too, as when it starts a link twice, but they also come where there is
+ * none, from events that crossed: one was on its way when another, or a signal, overtook it. Such
+ * an event is dropped, and the link goes on. Q.2140 assumes that this does not happen (clause 12).
+ * Seen with this library:
+ *
+ * - A timer's expiry, as the timer is reset (7): T1's as the peer connects, T2's as the link comes
+ *   into service, T3's as the connection is given up.
+ * - START, STOP, START before SSCOP has confirmed the release: RELEASE_CONFIRM comes in state 4.
+ *   The ESTABLISH_CONFIRM that follows is accepted.
+ * - Two ends that connect at once: ESTABLISH_INDICATION comes in state 4. SSCOP's ESTABLISH_CONFIRM
+ *   is accepted after it; should none come, the link waits until T2 expires.
+ * - What SSCOP still has to say when the link, in state 2 or 5, has given the connection up:
+ *   ESTABLISH_CONFIRM, RELEASE_INDICATION, DATA, RESYNC, RECOVER. RELEASE_CONFIRM is accepted
+ *   after it.
+ * - What the user asks before it has heard: MESSAGE_FOR_TRANSMISSION and STOP as the link leaves
+ *   service, EMERGENCY and EMERGENCY_CEASES as it comes into service. A message that is refused has
+ *   not been sent, and is still the user's.
+ * - PROVING_UNSUCCESSFUL from layer management, as proving ends.
+ * - RETRIEVE and RETRIEVE_COMPLETE after the next START. These messages are lost to the user, which
+ *   had better wait for RETRIEVAL_COMPLETE.
  */
 enum sscf_refusal {
     SSCF_ACCEPTED = 0,
