@@ -1,4 +1,5 @@
-## make              set-up, proof and library, first results to look at, a short story's trace and chart among them, and a C program over the library
+## make              set-up, proof and library, first results to look at, a short story's trace and chart among them, and two C programs over the
+##                   library: a host to copy, and the test of conformance
 ## make test         the gate: ends with 'N passed, 0 failed'
 ## make bench        what a step costs against a second machine, in instructions and, on x86-64, in time
 ## make install      the library for C, its headers and a pkg-config file, below PREFIX (/usr/local), the archive into LIBDIR (PREFIX/lib);
@@ -31,7 +32,8 @@ look: library
 	examples/chart
 
 example: library
-	host/run host/example.c
+	host/run examples/host.c
+	host/run host/conformance.c
 
 # Made anew where a crate is newer, so that no old archive is installed or measured.
 archive:
@@ -40,14 +42,15 @@ archive:
 # The version stands in the header alone.
 install: archive
 	install -d '$(DESTDIR)$(PREFIX)/include' '$(DESTDIR)$(LIBDIR)/pkgconfig'
-	install -m 644 include/sscf.h '$(DESTDIR)$(PREFIX)/include/sscf.h'
+	install -m 644 include/sscf.h include/sscf_host.h '$(DESTDIR)$(PREFIX)/include'
 	install -m 644 $(ARCHIVE) '$(DESTDIR)$(LIBDIR)/libsscf.a'
 	version=$$(sed -n 's/^#define SSCF_VERSION "\(.*\)"$$/\1/p' include/sscf.h) && \
 	sed -e 's|@PREFIX@|$(PREFIX)|' -e 's|@LIBDIR@|$(LIBDIR)|' -e "s|@VERSION@|$$version|" include/sscf.pc.in | \
 	install -m 644 /dev/stdin '$(DESTDIR)$(LIBDIR)/pkgconfig/sscf.pc'
 
 uninstall:
-	rm -f '$(DESTDIR)$(PREFIX)/include/sscf.h' '$(DESTDIR)$(LIBDIR)/libsscf.a' '$(DESTDIR)$(LIBDIR)/pkgconfig/sscf.pc'
+	rm -f '$(DESTDIR)$(PREFIX)/include/sscf.h' '$(DESTDIR)$(PREFIX)/include/sscf_host.h'
+	rm -f '$(DESTDIR)$(LIBDIR)/libsscf.a' '$(DESTDIR)$(LIBDIR)/pkgconfig/sscf.pc'
 
 bench: setup archive
 	host/bench

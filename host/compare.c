@@ -5,7 +5,7 @@
  *
  *     compare [SEED [CALLS]]     CALLS is that of the random histories
  */
-#include <sscf.h>
+#include <sscf_host.h>
 
 #include "second.h"
 
@@ -15,10 +15,6 @@
 
 enum { RECORD = SSCF_LINK_OCTETS, HEAD = SSCF_HEAD_OCTETS, UNIT = SSCF_UNIT_OCTETS, GUARD = 16 };
 enum { ROOM = SSCF_OUTPUT_OCTETS, LONGEST = 4096 }; /* the longest table and the longest message are of one length */
-
-/* Where the fields of a record and of an event stand. */
-enum { STATE = 2, FLAGS = 3, MPS = 4, UPS = 5, TIMERS = 6, KNOWN = 7, BSNT = 8, SPARE = 11, C1 = 12, N1 = 14 };
-enum { LINK = 2, CODE = 4, PARAMETER = 5, NUMBER = 6, ZERO = 9, LENGTH = 10 };
 
 enum { ALL_TIMERS = SSCF_TIMER_T1 | SSCF_TIMER_T2 | SSCF_TIMER_T3 };
 
@@ -191,11 +187,11 @@ static void differ_in_fresh(const struct call *c, unsigned n1, uint32_t a, uint3
 
 static void count_service(const struct call *c)
 {
-    size_t at = STATE;
+    size_t at = SSCF_LINK_AT_STATE;
 
     if (c->event_octets < HEAD)
         return;
-    at += RECORD * (size_t)(c->event[LINK] << 8 | c->event[LINK + 1]);
+    at += RECORD * (size_t)sscf_get_16(c->event + SSCF_HEAD_AT_LINK);
     if (at >= c->table_octets || c->table[at] == library.table[at])
         return;
     into_service += library.table[at] == SSCF_STATE_3_10_5;
@@ -255,18 +251,9 @@ static void make_event(struct call *c, unsigned link, struct kind kind)
     uint8_t *event = c->event;
     size_t n;
 
-    event[0] = 'E';
-    event[1] = 'V';
-    event[LINK] = (uint8_t)(link >> 8);
-    event[LINK + 1] = (uint8_t)link;
-    event[CODE] = (uint8_t)kind.code;
-    event[PARAMETER] = (uint8_t)kind.parameter;
-    event[NUMBER] = (uint8_t)(kind.number >> 16);
-    event[NUMBER + 1] = (uint8_t)(kind.number >> 8);
-    event[NUMBER + 2] = (uint8_t)kind.number;
-    event[ZERO] = 0;
-    event[LENGTH] = (uint8_t)(kind.length >> 8);
-    event[LENGTH + 1] = (uint8_t)kind.length;
+    /* The length by itself, since it may be one that no event has. */
+    sscf_put_event(event, HEAD, link, kind.code, kind.parameter, kind.number, NULL, 0);
+    sscf_put_16(event + SSCF_HEAD_AT_LENGTH, (uint32_t)kind.length);
     for (n = 0; n < kind.length && n < 64; n++)
         event[HEAD + n] = (uint8_t)draw();
     /* The rest of a long message is what the last one left there, but for its end. */
@@ -367,22 +354,17 @@ static uint8_t *record_of(struct call *c, unsigned link)
 static void make_record(uint8_t *record, unsigned state, unsigned timers, unsigned c1, unsigned n1)
 {
     memset(record, 0, RECORD);
-    record[0] = 'L';
-    record[1] = 'K';
-    record[STATE] = (uint8_t)state;
-    record[TIMERS] = (uint8_t)timers;
-    record[C1] = (uint8_t)(c1 >> 8);
-    record[C1 + 1] = (uint8_t)c1;
-    record[N1] = (uint8_t)(n1 >> 8);
-    record[N1 + 1] = (uint8_t)n1;
+    memcpy(record + SSCF_LINK_AT_MARK, "LK", 2);
+    record[SSCF_LINK_AT_STATE] = (uint8_t)state;
+    record[SSCF_LINK_AT_TIMERS] = (uint8_t)timers;
+    sscf_put_16(record + SSCF_LINK_AT_C1, c1);
+    sscf_put_16(record + SSCF_LINK_AT_N1, n1);
 }
 
 static void know_bsnt(uint8_t *record, uint32_t bsnt)
 {
-    record[KNOWN] = 1;
-    record[BSNT] = (uint8_t)(bsnt >> 16);
-    record[BSNT + 1] = (uint8_t)(bsnt >> 8);
-    record[BSNT + 2] = (uint8_t)bsnt;
+    record[SSCF_LINK_AT_BSNT_KNOWN] = 1;
+    sscf_put_24(record + SSCF_LINK_AT_BSNT, bsnt);
 }
 
 /* Three links, of which the two that are not meant hold anything at all: nobody may look. */
@@ -411,7 +393,8 @@ static void try_kinds(const uint8_t *record)
         link = make_table(&call, record);
         make_event(&call, link, kinds[n]);
         /* Whether the cell is legal hangs on the state alone, so few records need the short output. */
-        if (record[MPS] == 0 && record[UPS] == 0 && record[TIMERS] == ALL_TIMERS && record[KNOWN] == 0) {
+        if (record[SSCF_LINK_AT_MPS] == 0 && record[SSCF_LINK_AT_UPS] == 0
+            && record[SSCF_LINK_AT_TIMERS] == ALL_TIMERS && record[SSCF_LINK_AT_BSNT_KNOWN] == 0) {
             call.out_octets = too_short[below(sizeof too_short / sizeof too_short[0])];
             step(&call);
             call.out_octets = ROOM + below(3);
@@ -428,9 +411,9 @@ static void try_flags(unsigned state, unsigned timers, unsigned c1, unsigned n1)
 
     for (n = 0; n < 4 * 3 * 2 * 2; n++) {
         make_record(record, state, timers, c1, n1);
-        record[FLAGS] = (uint8_t)(n % 4);
-        record[MPS] = (uint8_t)(n / 4 % 3);
-        record[UPS] = (uint8_t)(n / 12 % 2);
+        record[SSCF_LINK_AT_FLAGS] = (uint8_t)(n % 4);
+        record[SSCF_LINK_AT_MPS] = (uint8_t)(n / 4 % 3);
+        record[SSCF_LINK_AT_UPS] = (uint8_t)(n / 12 % 2);
         if (n >= 24)
             know_bsnt(record, one_in(2) ? draw() >> 8 : bsnts[below(4)]);
         try_kinds(record);
@@ -504,7 +487,7 @@ static void every_record_octet(void)
         for (at = 0; at < RECORD; at++) {
             for (value = 0; value < 256; value++) {
                 link = sound(&call, everywhere_legal[below(5)]);
-                record_of(&call, link)[STATE] = (uint8_t)(1 + n % 8);
+                record_of(&call, link)[SSCF_LINK_AT_STATE] = (uint8_t)(1 + n % 8);
                 if (n >= 8)
                     know_bsnt(record_of(&call, link), one_in(4) ? 0 : draw() >> 8);
                 record_of(&call, link)[at] = (uint8_t)value;
@@ -521,7 +504,7 @@ static void every_code_and_parameter(void)
     for (code = 0; code < 256; code++) {
         for (parameter = 0; parameter < 256; parameter++) {
             sound(&call, code);
-            call.event[PARAMETER] = (uint8_t)parameter;
+            call.event[SSCF_HEAD_AT_PARAMETER] = (uint8_t)parameter;
             step(&call);
         }
     }
@@ -615,17 +598,16 @@ static void spoil_frame(struct call *c)
         c->event[bit / 8] ^= (uint8_t)(1 << bit % 8);
         break;
     case 1:
-        c->event[ZERO] = (uint8_t)(1 + bit);
+        c->event[SSCF_HEAD_AT_ZERO] = (uint8_t)(1 + bit);
         break;
     case 2:
-        c->event[LENGTH + 1]++;
+        c->event[SSCF_HEAD_AT_LENGTH + 1]++;
         break;
     case 3:
         c->event_octets = below(HEAD);
         break;
     default:
-        c->event[LENGTH] = (LONGEST + 1) >> 8;
-        c->event[LENGTH + 1] = (LONGEST + 1) & 255;
+        sscf_put_16(c->event + SSCF_HEAD_AT_LENGTH, LONGEST + 1);
         c->event_octets = HEAD + LONGEST + 1;
     }
 }
@@ -636,14 +618,14 @@ static void spoil_field(struct call *c)
 
     switch (below(3)) {
     case 0:
-        c->event[PARAMETER] = (uint8_t)(value | 0x10);
+        c->event[SSCF_HEAD_AT_PARAMETER] = (uint8_t)(value | 0x10);
         break;
     case 1:
-        c->event[NUMBER + octet] = (uint8_t)value;
+        c->event[SSCF_HEAD_AT_NUMBER + octet] = (uint8_t)value;
         break;
     default:
         if (c->event_octets == HEAD) {
-            c->event[LENGTH + 1] = (uint8_t)value;
+            c->event[SSCF_HEAD_AT_LENGTH + 1] = (uint8_t)value;
             c->event_octets += value;
         }
     }
@@ -651,7 +633,9 @@ static void spoil_field(struct call *c)
 
 static void spoil_records(struct call *c)
 {
-    static const uint8_t places[] = { 0, 1, STATE, FLAGS, MPS, UPS, TIMERS, KNOWN, SPARE };
+    static const uint8_t places[] = { SSCF_LINK_AT_MARK, SSCF_LINK_AT_MARK + 1, SSCF_LINK_AT_STATE, SSCF_LINK_AT_FLAGS,
+                                      SSCF_LINK_AT_MPS, SSCF_LINK_AT_UPS, SSCF_LINK_AT_TIMERS,
+                                      SSCF_LINK_AT_BSNT_KNOWN, SSCF_LINK_AT_ZERO };
     unsigned at = places[below(sizeof places)], n;
 
     for (n = 0; n < 3; n++)
@@ -667,13 +651,13 @@ static void spoil(struct call *c, unsigned wrong)
     if (wrong & WRONG_FRAME)
         spoil_frame(c);
     if (wrong & WRONG_CODE)
-        c->event[CODE] = (uint8_t)(51 + below(205));
+        c->event[SSCF_HEAD_AT_CODE] = (uint8_t)(51 + below(205));
     if (wrong & WRONG_LINK)
-        c->event[LINK + octet] |= (uint8_t)(4 << bit);
+        c->event[SSCF_HEAD_AT_LINK + octet] |= (uint8_t)(4 << bit);
     if (wrong & WRONG_RECORD)
         spoil_records(c);
     for (n = 0; n < 3 && wrong & WRONG_TIMER; n++)
-        record_of(c, n)[TIMERS] &= (uint8_t)~ALL_TIMERS;
+        record_of(c, n)[SSCF_LINK_AT_TIMERS] &= (uint8_t)~ALL_TIMERS;
     if (wrong & WRONG_TABLE)
         c->table_octets = one_in(3) ? 0 : one_in(2) ? 3 * RECORD - 1 - below(15) : LONGEST + RECORD;
     if (wrong & WRONG_OUTPUT)
@@ -815,7 +799,7 @@ static void random_call(struct call *c, size_t octets)
     uint8_t *record = record_of(c, link), *octet = record + below(RECORD), before = *octet;
     int damaged = one_in(40);
 
-    make_event(c, link, one_in(4) ? any() : likely(record[STATE]));
+    make_event(c, link, one_in(4) ? any() : likely(record[SSCF_LINK_AT_STATE]));
     if (one_in(30))
         damage_event(c);
     if (damaged)

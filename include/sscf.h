@@ -11,6 +11,8 @@
  *     sscf_step     takes one event for one link, brings that link's record in the table up to
  *                   date, and writes the signals that follow from the event
  *
+ * A third, sscf_version, tells the version.
+ *
  * The host hands in as an event whatever the link's user, SSCOP, layer management or a timer has
  * to say, and hands the signals on to those they are for. SSCOP itself, the clocks, the monitoring
  * of errors during proving and the detection of congestion are the host's.
@@ -18,8 +20,15 @@
  * The library is for x86-64 Linux. It allocates nothing, keeps nothing between calls and calls
  * nothing back; every call returns, whatever octets it is given. All it knows of the links stands
  * in the table, which is the host's: it may be copied, stored and carried to another process.
- * What the two calls promise, at the end of this header, is proved of the code, for every table
- * and every event.
+ * What the calls promise, at the end of this header, is proved of the code, for every table and
+ * every event.
+ *
+ * Of the C library it needs memmove and nothing else; a later version may also need memcpy, memset,
+ * memcmp or bcmp. A step takes at most 256 octets of stack, memmove's own not counted, the other
+ * calls their return address alone. (In 0.1.1 a step takes 200: by the archive's listing six
+ * registers saved, 136 octets and two return addresses, and as many were seen on a painted stack,
+ * with every event in every state. glibc's memmove takes none, but where it is bound lazily its
+ * first call runs the dynamic loader, which took 3 KB there.)
  *
  * HOW A LINK COMES INTO SERVICE
  *
@@ -68,6 +77,9 @@
  *         signal += SSCF_HEAD_OCTETS + length;
  *     }
  *
+ * sscf_host.h, beside this header, has inline functions for this and the names of all codes as
+ * strings. A whole host to copy is examples/host.c of the sources.
+ *
  * WHAT THE HOST SEES TO
  *
  * These are the only things that the library cannot test.
@@ -88,6 +100,9 @@
  *   running by itself. An expiry that comes after its timer was reset is refused, does no harm and
  *   can be dropped; one from before a reset must not be handed in after the next set, since nothing
  *   tells the two apart.
+ * - What SSCOP said before a RELEASE_REQUEST reached it is not handed in after the next START. In
+ *   state 4 an ESTABLISH_CONFIRM or RELEASE_INDICATION of the connection before would be taken for
+ *   one of the present connection.
  * - Nothing but sscf_fresh and sscf_step writes into the table, and they only as their table. Each
  *   call is lent the whole of it, from the first record to the last, and no octet of it lies in the
  *   out of any call, one on another table among them. A record that came there in another way is
@@ -106,7 +121,8 @@
 extern "C" {
 #endif
 
-#define SSCF_VERSION "0.1.0"
+#define SSCF_VERSION "0.1.1"
+#define SSCF_VERSION_NUMBER 1001 /* 1,000,000 x 0 + 1,000 x 1 + 1 */
 
 /* LIMITS */
 
@@ -143,19 +159,29 @@ extern "C" {
  * octet.
  */
 
-/* States, by Q.2140's triples: as the user sees the link, as SSCOP does, as management does. */
-enum {
-    SSCF_STATE_1_1_1 = 1,  /* out of service, idle */
-    SSCF_STATE_1_4_1 = 2,  /* out of service, SSCOP still to confirm a release */
-    SSCF_STATE_2_1_2 = 3,  /* alignment, idle until T1 expires or the peer connects */
-    SSCF_STATE_2_2_2 = 4,  /* alignment, SSCOP still to confirm the connection */
-    SSCF_STATE_2_4_2 = 5,  /* alignment, SSCOP still to confirm a release */
-    SSCF_STATE_2_10_3 = 6, /* proving */
-    SSCF_STATE_2_10_4 = 7, /* aligned ready: own INS unit sent, the peer's awaited */
-    SSCF_STATE_3_10_5 = 8  /* in service */
+/* Out of service are both 1 and 2, in service is 8 alone. */
+enum sscf_state {
+    SSCF_STATE_OUT_OF_SERVICE = 1,
+    SSCF_STATE_OUT_OF_SERVICE_RELEASING = 2, /* SSCOP still to confirm a release */
+    SSCF_STATE_ALIGNMENT_IDLE = 3,           /* until T1 expires or the peer connects */
+    SSCF_STATE_ALIGNMENT_CONNECTING = 4,     /* SSCOP still to confirm the connection */
+    SSCF_STATE_ALIGNMENT_RELEASING = 5,      /* SSCOP still to confirm a release */
+    SSCF_STATE_PROVING = 6,
+    SSCF_STATE_ALIGNED_READY = 7,            /* own INS unit sent, the peer's awaited */
+    SSCF_STATE_IN_SERVICE = 8,
+
+    /* The same by Q.2140's triples: as the user sees the link, as SSCOP does, as management. */
+    SSCF_STATE_1_1_1 = 1,
+    SSCF_STATE_1_4_1 = 2,
+    SSCF_STATE_2_1_2 = 3,
+    SSCF_STATE_2_2_2 = 4,
+    SSCF_STATE_2_4_2 = 5,
+    SSCF_STATE_2_10_3 = 6,
+    SSCF_STATE_2_10_4 = 7,
+    SSCF_STATE_3_10_5 = 8
 };
 
-enum {
+enum sscf_flag {
     SSCF_FLAG_INS = 1, /* the peer's INS unit came during proving; 0 again with a new connection */
     SSCF_FLAG_LPO = 2  /* local processor outage */
 };
@@ -167,11 +193,20 @@ enum {
  * MPS stays until management changes it; UPS falls back to Normal when the link goes out of
  * service or the user stops it.
  */
-enum { SSCF_MPS_NEUTRAL = 0, SSCF_MPS_NORMAL = 1, SSCF_MPS_EMERGENCY = 2 };
-enum { SSCF_UPS_NORMAL = 0, SSCF_UPS_EMERGENCY = 1 };
+enum sscf_mps { SSCF_MPS_NEUTRAL = 0, SSCF_MPS_NORMAL = 1, SSCF_MPS_EMERGENCY = 2 };
+enum sscf_ups { SSCF_UPS_NORMAL = 0, SSCF_UPS_EMERGENCY = 1 };
 
-/* The times are Q.2140's defaults. */
-enum {
+/*
+ * The times are Q.2140's defaults. T3 has no number there: it is to be "such that loading of the
+ * signalling link is approximately 50% of its nominal cell rate" (Table 5). The other defaults are
+ * for 64 kbit/s, which makes T3 some 13 ms: a proving unit is one cell, and a cell takes 6.6 ms.
+ *
+ * Proving takes n1 + 1 expiries of T3, the last for the INS unit. They must fit into T2, which runs
+ * from START on, at both ends, with time left for the connection itself. Else T2 ends every
+ * attempt: with n1 = 1000 and T2 of 30 seconds, a link that proves with T3 of 31 ms is never in
+ * service, nor one with 30.
+ */
+enum sscf_timer {
     SSCF_TIMER_T1 = 1, /* from a failed attempt at a connection to the next one: 5 seconds */
     SSCF_TIMER_T2 = 2, /* all of alignment, until the link is in service or given up: 30 seconds */
     SSCF_TIMER_T3 = 4  /* between proving units, so that they load the link to about one half */
@@ -201,7 +236,7 @@ enum {
  * signal the host makes the field 0, 0, 0, status; of a field that came it hands in the status, and
  * 0 where no field came or its status is none of these.
  */
-enum {
+enum sscf_status {
     SSCF_STATUS_OOS = 1, /* Out of Service */
     SSCF_STATUS_PO = 2,  /* Processor Outage */
     SSCF_STATUS_INS = 3, /* In Service */
@@ -224,7 +259,7 @@ enum {
  * number of the last message received (RETRIEVE_BSNT), and for those of its own messages that the
  * peer has not accepted, FSNC being the last it has (RETRIEVAL_REQUEST_AND_FSNC).
  */
-enum {
+enum sscf_event {
     /* From the user. */
     SSCF_EVENT_MESSAGE_FOR_TRANSMISSION = 1,   /* message, 5 to 4,096 octets      .......8 */
     SSCF_EVENT_EMERGENCY = 2,                  /*                                 1234567. */
@@ -273,7 +308,7 @@ enum {
 };
 
 /* Who released the connection, the number of RELEASE_INDICATION. */
-enum { SSCF_SOURCE_USER = 0, SSCF_SOURCE_SSCOP = 1 };
+enum sscf_source { SSCF_SOURCE_USER = 0, SSCF_SOURCE_SSCOP = 1 };
 
 /*
  * SIGNALS
@@ -281,7 +316,7 @@ enum { SSCF_SOURCE_USER = 0, SSCF_SOURCE_SSCOP = 1 };
  * They come in the order of Q.2140's Table 6, the timer orders last: resets before sets, T1 first.
  * All signals of a step are for the link of its event.
  */
-enum {
+enum sscf_signal {
     /* To the user. */
     SSCF_SIGNAL_RECEIVED_MESSAGE = 1,      /* message, 5 to 4,096 octets */
     SSCF_SIGNAL_LINK_CONGESTED = 2,        /* octet 5: the level, 0 to 3 */
@@ -318,18 +353,19 @@ enum {
 };
 
 /* A REPORT has a value in each of octets 6, 7 and 8; 0 is Q.2140's "-", nothing to report. */
-enum {
-    /* octet 6, towards SSCOP */
-    SSCF_REPORT_LOWER_LR = 1,       /* Local Release */
-    SSCF_REPORT_LOWER_RR = 2,       /* Remote Release */
-    SSCF_REPORT_LOWER_SR = 3,       /* SSCOP Release */
+enum sscf_report_lower { /* octet 6, towards SSCOP */
+    SSCF_REPORT_LOWER_LR = 1, /* Local Release */
+    SSCF_REPORT_LOWER_RR = 2, /* Remote Release */
+    SSCF_REPORT_LOWER_SR = 3  /* SSCOP Release */
+};
 
-    /* octet 7, towards the user */
-    SSCF_REPORT_UPPER_OOS = 1,      /* Out Of Service */
-    SSCF_REPORT_UPPER_INS = 2,      /* In Service */
-    SSCF_REPORT_UPPER_ALN = 3,      /* Alignment */
+enum sscf_report_upper { /* octet 7, towards the user */
+    SSCF_REPORT_UPPER_OOS = 1, /* Out Of Service */
+    SSCF_REPORT_UPPER_INS = 2, /* In Service */
+    SSCF_REPORT_UPPER_ALN = 3  /* Alignment */
+};
 
-    /* octet 8, the reason */
+enum sscf_report_reason { /* octet 8 */
     SSCF_REPORT_REASON_ANS = 1,     /* Alignment Not Successful */
     SSCF_REPORT_REASON_CC = 2,      /* Congestion Ceased */
     SSCF_REPORT_REASON_CD = 3,      /* Congestion Detected */
@@ -345,8 +381,33 @@ enum {
  *
  * Each is given exactly where it is listed, and the checks are made in this order: where several
  * things are wrong the lowest number is answered.
+ *
+ * 1 to 6 and 9 are faults of the host: a wrong length, an event written wrong, a record that
+ * something else wrote into. The same call is refused again, so they are to be logged and mended.
+ * After 6 the link is lost, until its record comes back from a copy or the table is made anew.
+ *
+ * 7 and 8 can be its faults too, as when it starts a link twice, but they also come where there is
+ * none, from events that crossed: one was on its way when another, or a signal, overtook it. Such
+ * an event is dropped, and the link goes on. Q.2140 assumes that this does not happen (clause 12).
+ * Seen with this library:
+ *
+ * - A timer's expiry, as the timer is reset (7): T1's as the peer connects, T2's as the link comes
+ *   into service, T3's as the connection is given up.
+ * - START, STOP, START before SSCOP has confirmed the release: RELEASE_CONFIRM comes in state 4.
+ *   The ESTABLISH_CONFIRM that follows is accepted.
+ * - Two ends that connect at once: ESTABLISH_INDICATION comes in state 4. SSCOP's ESTABLISH_CONFIRM
+ *   is accepted after it; should none come, the link waits until T2 expires.
+ * - What SSCOP still has to say when the link, in state 2 or 5, has given the connection up:
+ *   ESTABLISH_CONFIRM, RELEASE_INDICATION, DATA, RESYNC, RECOVER. RELEASE_CONFIRM is accepted
+ *   after it.
+ * - What the user asks before it has heard: MESSAGE_FOR_TRANSMISSION and STOP as the link leaves
+ *   service, EMERGENCY and EMERGENCY_CEASES as it comes into service. A message that is refused has
+ *   not been sent, and is still the user's.
+ * - PROVING_UNSUCCESSFUL from layer management, as proving ends.
+ * - RETRIEVE and RETRIEVE_COMPLETE after the next START. These messages are lost to the user, which
+ *   had better wait for RETRIEVAL_COMPLETE.
  */
-enum {
+enum sscf_refusal {
     SSCF_ACCEPTED = 0,
     SSCF_REFUSED_TABLE = 1,  /* table empty, not a multiple of 16 octets, or over 4,096 */
     SSCF_REFUSED_FRAME = 2,  /* event under 12 octets, its mark not "EV", octet 9 not 0, length
@@ -393,6 +454,12 @@ struct sscf_answer {
 struct sscf_answer sscf_step(uint8_t *table, size_t table_octets,
                              const uint8_t *event, size_t event_octets,
                              uint8_t *out, size_t out_octets);
+
+/*
+ * Answers the version of the library that the program was linked with, in the way of
+ * SSCF_VERSION_NUMBER. If the two differ, the header is not the one that belongs to the library.
+ */
+uint32_t sscf_version(void);
 
 #ifdef __cplusplus
 }

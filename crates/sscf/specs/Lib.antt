@@ -3,3 +3,4 @@ pub mod Step
 pub mod Plan
 pub mod Fresh
 pub mod Untouched
+pub mod Version

@@ -1,4 +1,4 @@
-// The two calls for C hosts: a fresh table, and one event for one link of a table.
+// The calls for C hosts: a fresh table, one event for one link of a table, and which version this is.
 mod checks;
 
 use checks::Plan;
@@ -13,6 +13,7 @@ ghost use Rattle.record.specs.LinkRecord.{recordOctets};
 ghost use Rattle.sscf.specs.Checks.{number};
 ghost use Rattle.sscf.specs.Step.{records, answered, answering, stepCall};
 ghost use Rattle.sscf.specs.Fresh.{copies, making, freshCall};
+ghost use Rattle.sscf.specs.Version.{version};
 
 // In place of a refusal's number.
 const ACCEPTED: u32 = 0;
@@ -83,4 +84,12 @@ pub extern "C" fn sscf_fresh(table: &mut [u8], n1: u16) -> u32
     let packed = record::pack(link::fresh(n1));
     fill(table, &packed);
     ACCEPTED
+}
+
+// The version, 0.1.1.
+#[no_mangle]
+pub extern "C" fn sscf_version() -> u32
+    ensures { λ a. ⌜ a ≡ version ⌝ }
+{
+    1001
 }

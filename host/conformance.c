@@ -1,9 +1,9 @@
 /*
- * A host in small: it calls the library as a switch would and checks every octet of what comes
- * back, where all is well and where it is not. What it expects is written down from Q.2140's
- * Table 6 and the layouts in sscf.h; nothing of it is taken from the library.
+ * A test of conformance: it makes the calls and checks every octet of what comes back, where all
+ * is well and where it is not. What it expects is written down from Q.2140's Table 6 and the
+ * layouts in sscf.h; nothing of it is taken from the library.
  */
-#include <sscf.h>
+#include <sscf_host.h>
 
 #include <stdio.h>
 #include <string.h>
@@ -20,7 +20,7 @@ static void check(int ok, const char *what, int line)
         return;
     failures++;
     if (failures <= 20)
-        fprintf(stderr, "example.c:%d: not so: %s (turn %lu)\n", line, what, turn);
+        fprintf(stderr, "conformance.c:%d: not so: %s (turn %lu)\n", line, what, turn);
 }
 
 #define CHECK(ok) check((ok) != 0, #ok, __LINE__)
@@ -48,32 +48,10 @@ static size_t want_octets, want_signals;              /* as it should answer */
 
 /* Records */
 
-static void put_16(uint8_t *at, size_t value)
-{
-    at[0] = (uint8_t)(value >> 8);
-    at[1] = (uint8_t)value;
-}
-
 /* Three octets as the number they stand for: a REPORT's values, or a number as people write it. */
 static uint32_t three(unsigned first, unsigned second, unsigned third)
 {
     return (uint32_t)first << 16 | (uint32_t)second << 8 | third;
-}
-
-static size_t put_record(uint8_t *at, const char *mark, unsigned link, unsigned code,
-                         unsigned parameter, uint32_t number, const uint8_t *message, size_t length)
-{
-    memcpy(at, mark, 2);
-    put_16(at + 2, link);
-    at[4] = (uint8_t)code;
-    at[5] = (uint8_t)parameter;
-    at[6] = (uint8_t)(number >> 16);
-    put_16(at + 7, number & 0xffff);
-    at[9] = 0;
-    put_16(at + 10, length);
-    if (length > 0)
-        memcpy(at + SSCF_HEAD_OCTETS, message, length);
-    return SSCF_HEAD_OCTETS + length;
 }
 
 /* A link with nothing forced, no haste and no BSNT. */
@@ -84,11 +62,11 @@ static void put_link(unsigned link, unsigned state, unsigned flags, unsigned tim
 
     memset(record, 0, SSCF_LINK_OCTETS);
     memcpy(record, "LK", 2);
-    record[2] = (uint8_t)state;
-    record[3] = (uint8_t)flags;
-    record[6] = (uint8_t)timers;
-    put_16(record + 12, c1);
-    put_16(record + 14, n1);
+    record[SSCF_LINK_AT_STATE] = (uint8_t)state;
+    record[SSCF_LINK_AT_FLAGS] = (uint8_t)flags;
+    record[SSCF_LINK_AT_TIMERS] = (uint8_t)timers;
+    sscf_put_16(record + SSCF_LINK_AT_C1, c1);
+    sscf_put_16(record + SSCF_LINK_AT_N1, n1);
 }
 
 /* A new table of links out of service, amid octets that the calls must leave alone. */
@@ -121,7 +99,8 @@ static void want_nothing(void)
 static void put_event(unsigned link, unsigned code, unsigned parameter, uint32_t number,
                       const uint8_t *message, size_t length)
 {
-    event_octets = put_record(now.event, "EV", link, code, parameter, number, message, length);
+    event_octets = sscf_put_event(now.event, sizeof now.event, link, code, parameter, number,
+                                  message, length);
     want_nothing();
 }
 
@@ -130,11 +109,15 @@ static void put_bare_event(unsigned link, unsigned code)
     put_event(link, code, 0, 0, NULL, 0);
 }
 
+/* A signal's record is an event's with another mark. */
 static void want_signal(unsigned link, unsigned code, unsigned parameter, uint32_t number,
                         const uint8_t *message, size_t length)
 {
-    want_octets += put_record(want.out + want_octets, "SG", link, code, parameter, number, message,
-                              length);
+    uint8_t *signal = want.out + want_octets;
+
+    want_octets += sscf_put_event(signal, sizeof want.out - want_octets, link, code, parameter,
+                                  number, message, length);
+    memcpy(signal + SSCF_HEAD_AT_MARK, "SG", 2);
     want_signals++;
 }
 
@@ -152,19 +135,18 @@ static void want_link(unsigned link, unsigned state, unsigned flags, unsigned ti
 {
     uint8_t *record = want.table + SSCF_LINK_OCTETS * link;
 
-    record[2] = (uint8_t)state;
-    record[3] = (uint8_t)flags;
-    record[6] = (uint8_t)timers;
-    put_16(record + 12, c1);
+    record[SSCF_LINK_AT_STATE] = (uint8_t)state;
+    record[SSCF_LINK_AT_FLAGS] = (uint8_t)flags;
+    record[SSCF_LINK_AT_TIMERS] = (uint8_t)timers;
+    sscf_put_16(record + SSCF_LINK_AT_C1, c1);
 }
 
 static void want_bsnt(unsigned link, uint32_t number)
 {
     uint8_t *record = want.table + SSCF_LINK_OCTETS * link;
 
-    record[7] = 1;
-    record[8] = (uint8_t)(number >> 16);
-    put_16(record + 9, number & 0xffff);
+    record[SSCF_LINK_AT_BSNT_KNOWN] = 1;
+    sscf_put_24(record + SSCF_LINK_AT_BSNT, number);
 }
 
 /* The calls. A buffer of no octets is lent as a null pointer. */
@@ -203,6 +185,16 @@ static uint8_t message[SSCF_MESSAGE_OCTETS_MAX];
 
 enum { T1 = SSCF_TIMER_T1, T2 = SSCF_TIMER_T2, T3 = SSCF_TIMER_T3 };
 
+/* The archive is of the header's version, and the header's number says what its text says. */
+static void version(void)
+{
+    unsigned major, minor, patch;
+
+    CHECK(sscf_version() == SSCF_VERSION_NUMBER);
+    CHECK(sscanf(SSCF_VERSION, "%u.%u.%u", &major, &minor, &patch) == 3 &&
+          SSCF_VERSION_NUMBER == 1000000 * major + 1000 * minor + patch);
+}
+
 /* sscf_fresh: as many octets as were lent, and no other. */
 static void fresh_tables(void)
 {
@@ -237,7 +229,7 @@ static void fresh_refusals(void)
     FRESH(4112, 0, 1);
 }
 
-/* The first use in sscf.h, as it stands there. */
+/* The first uses in sscf.h and in sscf_host.h, as they stand there. */
 static void first_use(void)
 {
     uint8_t table[4 * SSCF_LINK_OCTETS];
@@ -260,6 +252,24 @@ static void first_use(void)
         CHECK(signal[4] == codes[n]);
         signal += SSCF_HEAD_OCTETS + length;
     }
+}
+
+static void first_use_by_helpers(void)
+{
+    static const char *const names[] = {"AA-ESTABLISH-request", "MAAL-REPORT-indication", "Set T2",
+                                        NULL};
+    uint8_t table[4 * SSCF_LINK_OCTETS], out[SSCF_OUTPUT_OCTETS], event[SSCF_HEAD_OCTETS];
+    size_t octets = sscf_put_bare_event(event, sizeof event, 2, SSCF_EVENT_START);
+    struct sscf_answer answer;
+    const uint8_t *signal;
+
+    sscf_fresh(table, sizeof table, SSCF_N1_DEFAULT);
+    answer = sscf_step(table, sizeof table, event, octets, out, sizeof out);
+    CHECK(strcmp(sscf_refusal_name(answer.refusal), "accepted") == 0);
+    for (signal = sscf_first_signal(out, answer); signal != NULL && names[turn] != NULL;
+         signal = sscf_next_signal(out, answer, signal))
+        CHECK(strcmp(sscf_signal_name(signal[SSCF_HEAD_AT_CODE]), names[turn++]) == 0);
+    CHECK(signal == NULL && turn == 3);
 }
 
 /* The run that document 01 prints in whole: the last proving unit, then the INS unit where the
@@ -470,8 +480,8 @@ static void haste(void)
 
                 turn = 100 * mps + 10 * ups + peer;
                 set_up(1);
-                now.table[4] = (uint8_t)mps;
-                now.table[5] = (uint8_t)ups;
+                now.table[SSCF_LINK_AT_MPS] = (uint8_t)mps;
+                now.table[SSCF_LINK_AT_UPS] = (uint8_t)ups;
                 put_bare_event(0, SSCF_EVENT_START);
                 want_link(0, SSCF_STATE_2_2_2, 0, T2, 0);
                 want_signal(0, SSCF_SIGNAL_ESTABLISH_REQUEST,
@@ -496,7 +506,7 @@ static void broken_lengths(void)
 
     set_up(SSCF_LINKS_MAX);
     put_bare_event(255, SSCF_EVENT_EMERGENCY);
-    want.table[255 * SSCF_LINK_OCTETS + 5] = SSCF_UPS_EMERGENCY;
+    want.table[255 * SSCF_LINK_OCTETS + SSCF_LINK_AT_UPS] = SSCF_UPS_EMERGENCY;
     STEP(SSCF_ACCEPTED);
     for (i = 0; i < sizeof tables / sizeof *tables; i++) {
         turn = i;
@@ -542,7 +552,7 @@ static void broken_frames(void)
         set_up(1);
         put_bare_event(0, SSCF_EVENT_UNITDATA);
         now.event[frames[i].at] = frames[i].value;
-        put_16(now.event + 10, frames[i].length);
+        sscf_put_16(now.event + SSCF_HEAD_AT_LENGTH, frames[i].length);
         event_octets = frames[i].octets;
         want_nothing();
         STEP(SSCF_REFUSED_FRAME);
@@ -666,6 +676,102 @@ static void states(void)
                 }
 }
 
+/* Events that crossed, as sscf.h tells of them under the refusals: those that came too late are
+ * refused, and the link takes what follows. A DATA brings the peer's INS unit. */
+static void crossings(void)
+{
+    static const struct {
+        uint8_t state, timers;
+        struct {
+            uint8_t code, parameter, refusal, state;
+        } events[6];
+    } runs[] = {
+        /* expiries of timers just reset */
+        {3, 1 + 2, {{SSCF_EVENT_ESTABLISH_INDICATION, SSCF_STATUS_NM, 0, 6},
+                    {SSCF_EVENT_T1_EXPIRED, 0, 7, 6}}},
+        {7, 2, {{SSCF_EVENT_DATA, 0, 0, 8}, {SSCF_EVENT_T2_EXPIRED, 0, 7, 8}}},
+        {6, 2 + 4, {{SSCF_EVENT_RELEASE_INDICATION, SSCF_STATUS_OOS, 0, 3},
+                    {SSCF_EVENT_T3_EXPIRED, 0, 7, 3}}},
+        /* a release that is confirmed after the next START */
+        {1, 0, {{SSCF_EVENT_START, 0, 0, 4},
+                {SSCF_EVENT_STOP, 0, 0, 2},
+                {SSCF_EVENT_START, 0, 0, 4},
+                {SSCF_EVENT_RELEASE_CONFIRM, 0, 8, 4},
+                {SSCF_EVENT_ESTABLISH_CONFIRM, SSCF_STATUS_NM, 0, 6}}},
+        /* two ends that connect at once */
+        {1, 0, {{SSCF_EVENT_START, 0, 0, 4},
+                {SSCF_EVENT_ESTABLISH_INDICATION, SSCF_STATUS_NM, 8, 4},
+                {SSCF_EVENT_ESTABLISH_CONFIRM, SSCF_STATUS_NM, 0, 6}}},
+        {1, 0, {{SSCF_EVENT_START, 0, 0, 4},
+                {SSCF_EVENT_ESTABLISH_INDICATION, SSCF_STATUS_NM, 8, 4},
+                {SSCF_EVENT_T2_EXPIRED, 0, 0, 2}}},
+        /* what SSCOP still says of a connection given up */
+        {4, 2, {{SSCF_EVENT_STOP, 0, 0, 2},
+                {SSCF_EVENT_ESTABLISH_CONFIRM, SSCF_STATUS_NM, 8, 2},
+                {SSCF_EVENT_RELEASE_CONFIRM, 0, 0, 1}}},
+        {8, 0, {{SSCF_EVENT_STOP, 0, 0, 2},
+                {SSCF_EVENT_DATA, 0, 8, 2},
+                {SSCF_EVENT_RESYNC, 0, 8, 2},
+                {SSCF_EVENT_RECOVER, 0, 8, 2},
+                {SSCF_EVENT_RELEASE_INDICATION, SSCF_STATUS_OOS, 8, 2},
+                {SSCF_EVENT_RELEASE_CONFIRM, 0, 0, 1}}},
+        {6, 2 + 4, {{SSCF_EVENT_CONGESTION, 1, 0, 5},
+                    {SSCF_EVENT_DATA, 0, 8, 5},
+                    {SSCF_EVENT_RESYNC, 0, 8, 5},
+                    {SSCF_EVENT_RECOVER, 0, 8, 5},
+                    {SSCF_EVENT_RELEASE_INDICATION, SSCF_STATUS_OOS, 8, 5},
+                    {SSCF_EVENT_RELEASE_CONFIRM, 0, 0, 3}}},
+        {4, 2, {{SSCF_EVENT_ESTABLISH_CONFIRM, 0, 0, 5}, /* without a field: given up by PE */
+                {SSCF_EVENT_ESTABLISH_CONFIRM, SSCF_STATUS_NM, 8, 5},
+                {SSCF_EVENT_RELEASE_CONFIRM, 0, 0, 3}}},
+        /* users that have not heard yet */
+        {8, 0, {{SSCF_EVENT_RELEASE_INDICATION, SSCF_STATUS_OOS, 0, 1},
+                {SSCF_EVENT_MESSAGE_FOR_TRANSMISSION, 0, 8, 1},
+                {SSCF_EVENT_STOP, 0, 8, 1}}},
+        {7, 2, {{SSCF_EVENT_DATA, 0, 0, 8},
+                {SSCF_EVENT_EMERGENCY, 0, 8, 8},
+                {SSCF_EVENT_EMERGENCY_CEASES, 0, 8, 8}}},
+        /* management that has not heard yet */
+        {6, 2 + 4, {{SSCF_EVENT_T3_EXPIRED, 0, 0, 7}, {SSCF_EVENT_PROVING_UNSUCCESSFUL, 0, 8, 7}}},
+        {6, 2 + 4, {{SSCF_EVENT_STOP, 0, 0, 2}, {SSCF_EVENT_PROVING_UNSUCCESSFUL, 0, 8, 2}}},
+        /* a retrieval that goes on after the next START */
+        {1, 0, {{SSCF_EVENT_RETRIEVAL_REQUEST_AND_FSNC, 0, 0, 1},
+                {SSCF_EVENT_START, 0, 0, 4},
+                {SSCF_EVENT_RETRIEVE, 0, 8, 4},
+                {SSCF_EVENT_RETRIEVE_COMPLETE, 0, 8, 4}}},
+        /* what must not be handed in late: it is taken for the present connection's */
+        {1, 0, {{SSCF_EVENT_START, 0, 0, 4},
+                {SSCF_EVENT_STOP, 0, 0, 2},
+                {SSCF_EVENT_START, 0, 0, 4},
+                {SSCF_EVENT_ESTABLISH_CONFIRM, SSCF_STATUS_NM, 0, 6}}},
+        {8, 0, {{SSCF_EVENT_STOP, 0, 0, 2},
+                {SSCF_EVENT_START, 0, 0, 4},
+                {SSCF_EVENT_RELEASE_INDICATION, SSCF_STATUS_OOS, 0, 3}}}
+    };
+    size_t run, i;
+
+    for (run = 0; run < sizeof runs / sizeof *runs; run++) {
+        set_up(1);
+        put_link(0, runs[run].state, 0, runs[run].timers, 0, 1);
+        for (i = 0; i < 6 && runs[run].events[i].code != 0; i++) {
+            const unsigned code = runs[run].events[i].code;
+            const uint32_t refusal = runs[run].events[i].refusal;
+            const int longer = code == SSCF_EVENT_MESSAGE_FOR_TRANSMISSION ||
+                               code == SSCF_EVENT_RETRIEVE;
+
+            turn = 10 * run + i;
+            put_event(0, code, runs[run].events[i].parameter, 0, longer ? message : ins_unit,
+                      longer ? 5 : code == SSCF_EVENT_DATA ? 4 : 0);
+            if (refusal != SSCF_ACCEPTED)
+                STEP(refusal);
+            else
+                CHECK(sscf_step(now.table, 16, now.event, event_octets, now.out, out_octets)
+                          .refusal == SSCF_ACCEPTED);
+            CHECK(now.table[SSCF_LINK_AT_STATE] == runs[run].events[i].state);
+        }
+    }
+}
+
 /* Several things wrong at once, in each of the 511 ways: the lowest number is answered. */
 static void several_wrong(void)
 {
@@ -680,19 +786,19 @@ static void several_wrong(void)
         if (wrong & 1u << 0)
             table_octets--;
         if (wrong & 1u << 1)
-            now.event[9] = 1;
+            now.event[SSCF_HEAD_AT_ZERO] = 1;
         if (wrong & 1u << 2)
-            now.event[4] = 51;
+            now.event[SSCF_HEAD_AT_CODE] = 51;
         if (wrong & 1u << 3)
-            now.event[5] = 1;
+            now.event[SSCF_HEAD_AT_PARAMETER] = 1;
         if (wrong & 1u << 4)
-            now.event[3] = 3;
+            sscf_put_16(now.event + SSCF_HEAD_AT_LINK, 3);
         if (wrong & 1u << 5)
-            record[0] = 'X';
+            record[SSCF_LINK_AT_MARK] = 'X';
         if (wrong & 1u << 6)
-            record[6] = T2;
+            record[SSCF_LINK_AT_TIMERS] = T2;
         if (wrong & 1u << 7)
-            record[2] = SSCF_STATE_1_1_1;
+            record[SSCF_LINK_AT_STATE] = SSCF_STATE_1_1_1;
         if (wrong & 1u << 8)
             out_octets = 4191;
         for (lowest = 1; (wrong >> (lowest - 1) & 1) == 0; lowest++)
@@ -705,9 +811,10 @@ static void several_wrong(void)
 int main(void)
 {
     static void (*const parts[])(void) = {
-        fresh_tables,   fresh_refusals, first_use,     into_service,   one_life,
-        messages,       timer_orders,   haste,         broken_lengths, broken_frames,
-        broken_fields,  broken_records, states,        several_wrong
+        version,       fresh_tables,   fresh_refusals, first_use,     first_use_by_helpers,
+        into_service,  one_life,       messages,       timer_orders,  haste,
+        broken_lengths, broken_frames, broken_fields,  broken_records, states,
+        crossings,     several_wrong
     };
     size_t i;
 
@@ -717,6 +824,6 @@ int main(void)
         turn = 0;
         parts[i]();
     }
-    printf("example: %lu checks, %lu failed\n", checks, failures);
+    printf("conformance: %lu checks, %lu failed\n", checks, failures);
     return failures == 0 ? 0 : 1;
 }
