@@ -9,7 +9,7 @@
  */
 #define _POSIX_C_SOURCE 199309L /* clock_gettime */
 
-#include <sscf.h>
+#include <sscf_host.h>
 
 #include "second.h"
 
@@ -129,32 +129,23 @@ static uint8_t numbers[SSCF_LINKS_MAX][2]; /* of the links, as an event has them
 static size_t table_octets;
 static unsigned last_link; /* links are a power of two, so that this is a mask too */
 
-static void put_16(uint8_t *at, unsigned value)
-{
-    at[0] = (uint8_t)(value >> 8);
-    at[1] = (uint8_t)value;
-}
-
 static void set_up_kind(struct kind *kind, const struct bench_case *c)
 {
+    uint8_t *message = kind->event + SSCF_HEAD_OCTETS;
     size_t i;
 
     memcpy(kind->start, table, sizeof kind->start);
-    kind->start[2] = c->state;
-    kind->start[3] = c->flags;
-    kind->start[6] = c->timers;
-    put_16(kind->start + 12, c->c1);
+    kind->start[SSCF_LINK_AT_STATE] = c->state;
+    kind->start[SSCF_LINK_AT_FLAGS] = c->flags;
+    kind->start[SSCF_LINK_AT_TIMERS] = c->timers;
+    sscf_put_16(kind->start + SSCF_LINK_AT_C1, c->c1);
 
-    memset(kind->event, 0, SSCF_HEAD_OCTETS);
-    memcpy(kind->event, "EV", 2);
-    kind->event[4] = c->code;
-    kind->event[5] = c->parameter;
-    put_16(kind->event + 10, c->length);
     for (i = 0; i < c->length; i++)
-        kind->event[SSCF_HEAD_OCTETS + i] = (uint8_t)(i * 7 + 1);
-    kind->event_octets = SSCF_HEAD_OCTETS + (size_t)c->length;
+        message[i] = (uint8_t)(i * 7 + 1);
     if (c->length == SSCF_UNIT_OCTETS)
-        kind->event[kind->event_octets - 1] = SSCF_STATUS_NM;
+        message[SSCF_UNIT_OCTETS - 1] = SSCF_STATUS_NM;
+    kind->event_octets = sscf_put_event(kind->event, sizeof kind->event, 0, c->code, c->parameter, 0,
+                                        message, c->length);
 }
 
 static void draw(unsigned many)
@@ -182,7 +173,7 @@ static void set_up(const struct row *row, unsigned links)
     last_link = links - 1;
     sscf_fresh(table, table_octets, SSCF_N1_DEFAULT);
     for (i = 0; i < links; i++)
-        put_16(numbers[i], (unsigned)i);
+        sscf_put_16(numbers[i], (uint32_t)i);
     for (i = 0; i < row->many; i++)
         set_up_kind(&kinds[i], row->kinds[i]);
     draw(row->many);
@@ -195,7 +186,7 @@ static inline const struct kind *ready(unsigned call)
     unsigned link = call & last_link;
 
     memcpy(table + link * SSCF_LINK_OCTETS, kind->start, sizeof kind->start);
-    memcpy(kind->event + 2, numbers[link], sizeof numbers[link]);
+    memcpy(kind->event + SSCF_HEAD_AT_LINK, numbers[link], sizeof numbers[link]);
     return kind;
 }
 
