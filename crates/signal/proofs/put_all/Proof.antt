@@ -1,5 +1,5 @@
 -- `signal::put_all` meets its contract. Assumes nothing.
-use mathlib.Core.Path.{_≡_, refl, ap, _∙_}
+use mathlib.Core.Path.{_≡_, refl, ap, subst⁻¹, _∙_}
 use mathlib.Core.List.{_++_}
 use Prim.Native.Nat.{ℕ, _+_, _*_, _^_, _-_, _/_, _%_, _<_, _≤_}
 use native.Mathlib.Omega.{arith}
@@ -7,12 +7,13 @@ use lib.ListN.{length, take, drop, getD, length-take, length-drop}
 use lib.Seq.{take-length}
 use borrow.Author.Needs.{needs}
 use Rattle.table6.specs.Stored.{wordAt}
+use Rattle.link.specs.declared.Signal.{Signal}
 use Rattle.link.specs.Signal.{bare}
 use Rattle.link.specs.Stored.{meantBy, signalsOf}
 use Rattle.link.proofs.Spoken.{counted, placed}
 use Rattle.octet.specs.Octets.{over}
 use Rattle.event.specs.Frame.{linkAt, messageOf}
-use Rattle.signal.specs.SignalRecord.{joined, bodyOf}
+use Rattle.signal.specs.SignalRecord.{bodyOf, signalOctets, joined}
 use Rattle.octet.proofs.Over.{length-over}
 use Rattle.signal.proofs.SignalRecord.{next-word, signal-length, reached, joined-le, next-fits, turn}
 use Rattle.signal.proofs.put_all.Statement.{statement}
@@ -48,7 +49,8 @@ fits : (c : tie.In-loop Inv-loop μ-loop) →
 fits c =
     let a = c .before .before .before .before .before .before .args in
     let h = next-fits (linkAt (a .e .now)) (messageOf (a .e .now)) (signalsOf (a .said)) (c .before .loop .j) (bare 0) (left c) in
-    rw (spoken c) (omega (arith, c .before .loop .inv .0, h, c .before .before .before .before .before .before .pre .3))
+    subst⁻¹ (λ (s : Signal). c .before .loop .at + (12 + length (bodyOf (s .carries) (messageOf (a .e .now)))) ≤ length (a .out .now)) (spoken c)
+    (omega (arith, c .before .loop .inv .0, h, c .before .before .before .before .before .before .pre .3))
 
 -- after a turn
 more : (c : tie.After-slice-known2 Inv-loop μ-loop) →
@@ -60,7 +62,7 @@ more c =
     let a = c .before .before .before .before .before .before .before .before .before .before .args in
     let l = c .before .before .before .before .before .loop in
     turn (linkAt (a .e .now)) (messageOf (a .e .now)) (signalsOf (a .said)) (l .j) (bare 0) (a .out .now) (l .out) (c .before .before .put-signal .last .0) (l .at)
-    (left (c .before .before .before .before)) (l .inv .0) (l .inv .1) (c .before .before .put-signal .ensures .written ∙ rw (spoken (c .before .before .before .before)))
+    (left (c .before .before .before .before)) (l .inv .0) (l .inv .1) (c .before .before .put-signal .ensures .written ∙ ap (λ (s : Signal). over (signalOctets (linkAt (a .e .now)) (messageOf (a .e .now)) s) (take (length (l .out) - l .at) (drop (l .at) (l .out)))) (spoken (c .before .before .before .before)))
 
 -- and how far the writer is then
 further : (c : tie.After-slice-known2 Inv-loop μ-loop) →
@@ -72,7 +74,9 @@ further c =
     let l = c .before .before .before .before .before .loop in
     let s = getD (signalsOf (a .said)) (l .j) (bare 0) in
     let e : c .before .before .put-signal .result ≡ 12 + length (bodyOf (s .carries) (messageOf (a .e .now))) =
-    c .before .before .put-signal .ensures .answer ∙ rw (spoken (c .before .before .before .before)) (signal-length (linkAt (a .e .now)) (messageOf (a .e .now)) s) in
+    c .before .before .put-signal .ensures .answer
+    ∙ ap (λ (s : Signal). length (signalOctets (linkAt (a .e .now)) (messageOf (a .e .now)) s)) (spoken (c .before .before .before .before))
+    ∙ signal-length (linkAt (a .e .now)) (messageOf (a .e .now)) s in
     omega (arith, l .inv .0, e, reached (linkAt (a .e .now)) (messageOf (a .e .now)) (signalsOf (a .said)) (l .j) (bare 0) (left (c .before .before .before .before)))
 
 -- which is not past the end
