@@ -51,8 +51,7 @@ use Rattle.sscf.proofs.Taken.{Makes, step-accepted}
 use Rattle.sscf.proofs.Untouched.{number-above, refusals-untouched, same-lengths, stays-well-formed, accepted-written}
 use Rattle.sscf.proofs.AllFresh.{fresh-well-formed}
 use Rattle.history.specs.Calls.{Call, fresh, step, signalsIn, World, made, next, run, AfterEachCall}
-use Rattle.history.specs.Witness.{room}
-use Rattle.history.specs.Pics.{Turn, _⇒_, Happens, linkIn, Leads, plain, asking, from-peer, coded, released, message, arriving, release, unit, report, report-uu, request, response, units, readies, completes, joins, notes, later, sooner, Brings, Serves, starts, answers, confirms, fails, SNPC1, SNPC2, SNPC3, SNPC4, SNPC5, SNPC6, toUser, toSSCOP, toManagement, toTimers, oneOf, every, SNPC6-1, SNPC7, SNPC8, SNSP1, SNSP2}
+use Rattle.history.specs.Pics.{Turn, _⇒_, room, Happens, linkIn, Leads, plain, asking, from-peer, coded, released, message, arriving, release, unit, report, report-uu, request, response, units, readies, completes, joins, notes, later, sooner, Brings, Serves, starts, answers, confirms, fails, SNPC1, SNPC2, SNPC3, SNPC4, SNPC5, SNPC6, toUser, toSSCOP, toManagement, toTimers, oneOf, every, SNPC6-1, SNPC7, SNPC8, SNSP1, SNSP2}
 use Rattle.history.specs.History.{Mark, history}
 use Rattle.history.specs.Tests.{alive}
 use Rattle.history.proofs.Tested.{alive-there}

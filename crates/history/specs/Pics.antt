@@ -26,10 +26,9 @@ use Rattle.link.specs.Signal.{none, num, signal, bare}
 use Rattle.record.specs.LinkRecord.{linkOf}
 use Rattle.event.specs.Frame.{messageOctets, EV, written, linkAt, codeAt, messageOf}
 use Rattle.signal.specs.SignalRecord.{signalOctets}
-use Rattle.sscf.specs.Step.{recordAt, stepCall}
+use Rattle.sscf.specs.Step.{recordAt, outputOctets, stepCall}
 use Rattle.history.specs.Calls.{step, signalsIn, World, next, AfterEachCall}
 use Rattle.history.specs.History.{history, Connection}
-use Rattle.history.specs.Witness.{room}
 
 -- TURNS. An event is handed in, and brings signals.
 pub record Turn : Type 0 where
@@ -39,6 +38,10 @@ pub record Turn : Type 0 where
 infix 30 _⇒_
 abbrev pub _⇒_ : List ℕ → List Signal → Turn
 e ⇒ s = record { event = e; signals = s }
+
+-- as much as a step asks for
+abbrev pub room : List ℕ
+room = replicate outputOctets 0
 
 -- It happens to a table: the call is accepted, and the records cut out of its output are those of just these signals.
 pub record Happens (table : List ℕ) (x : Turn) : Type 0 where
