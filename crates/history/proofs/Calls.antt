@@ -46,11 +46,11 @@ cut-joined k m (s ∷ ss) =
     let a = signals-apart k m s ss in
     rw (a .first, a .others) (ap (λ (x : List (List ℕ)). signalOctets k m s ∷ x) (cut-joined k m ss))
 
-emitted-ones : (t e : List ℕ) (after : Outcome) (w : Written t e after) → signalsIn after ≡ map (signalOctets (linkAt e) (messageOf e)) (w .signals)
+pub emitted-ones : (t e : List ℕ) (after : Outcome) (w : Written t e after) → signalsIn after ≡ map (signalOctets (linkAt e) (messageOf e)) (w .signals)
 emitted-ones t e after w = rw (w .counted, w .octets) (cut-joined (linkAt e) (messageOf e) (w .signals))
 
 -- WHAT THE EVENT SAYS
-long-message : (m : List ℕ) → 5 ≤ length m → arrived m ≡ Arrived.Long
+pub long-message : (m : List ℕ) → 5 ≤ length m → arrived m ≡ Arrived.Long
 unfolding arrived
 long-message [] h = absurd (omega arith)
 long-message (a ∷ []) h = absurd (omega arith)
@@ -90,7 +90,7 @@ pub record Kept (n1 : ℕ) (r : List ℕ) (h : List Mark) : Type 0 where
 abbrev Good : World → Type 0
 Good w = (k : ℕ) → k < records (w .table) → Kept (w .n1) (recordAt (w .table) k) (history w k)
 
-made-length : (buffer : List ℕ) (n1 : ℕ) → freshCall buffer n1 .answer ≡ 0 → length (freshCall buffer n1 .table) ≡ 16 * records buffer
+pub made-length : (buffer : List ℕ) (n1 : ℕ) → freshCall buffer n1 .answer ≡ 0 → length (freshCall buffer n1 .table) ≡ 16 * records buffer
 unfolding freshCall
 made-length buffer n1 = by (first (freshChecks buffer n1)) where
   by : (v : Verdict) → maker.made v buffer n1 .answer ≡ 0 → length (maker.made v buffer n1 .table) ≡ 16 * records buffer

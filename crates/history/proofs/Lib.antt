@@ -8,3 +8,4 @@ pub mod Calls
 pub mod Demand
 pub mod Register
 pub mod Witness
+pub mod Pics

@@ -89,7 +89,7 @@ module _ {h : List Mark} (c : Connection h) where
   pub begun-there : from edge h ≡ begun c
   begun-there = ap (from edge) (c .up .whole) ∙ from-there edge (c .up .mark) (c .up .earlier) edged (since c) (c .present)
 
-  alive-there : alive h ≡ true
+  pub alive-there : alive h ≡ true
   unfolding alive
   alive-there = ap (begins comesUp) begun-there ∙ c .up .passes
 

@@ -4,3 +4,4 @@ pub mod Demand
 pub mod Register
 pub mod Tests
 pub mod Witness
+pub mod Pics

@@ -1,0 +1,591 @@
+-- The items of A.6.1: a call is taken where no check refuses its event and Table 6 has a cell for it, and turns follow one another. Assumes nothing.
+use mathlib.Core.Path.{_≡_, refl, sym, ap, subst, _∙_}
+use mathlib.Core.Bool.{Bool, true, false, cond, not, true≢false}
+use mathlib.Core.Logic.{_⊎_, inl, inr}
+use mathlib.Core.List.{List, [], _∷_, _++_, map}
+use Prim.Native.Nat.{ℕ, zero, suc, _+_, _-_, _≤_, _<_}
+use native.Mathlib.Omega.{arith}
+use lib.Dec.{eqb}
+use lib.ListN.{length}
+use borrow.Author.Tests.{eqb-true, eqb-false, ne-eqb, le-leb, lt-leb}
+use Rattle.unit.specs.declared.Status.{Status}
+use Rattle.unit.specs.declared.Field.{Field}
+use Rattle.unit.specs.declared.Arrived.{Arrived}
+use Rattle.unit.specs.declared.Mps.{Mps}
+use Rattle.unit.specs.declared.Ups.{Ups}
+use Rattle.unit.specs.Unit.{unitOf, kind, arrived, decoded}
+use Rattle.unit.specs.Proving.{asked, table7}
+use Rattle.table6.specs.declared.State.{State}
+use Rattle.table6.specs.Cell.{T1, T2, T3, Act, AAL-RECEIVED-MESSAGE-indication, AAL-LINK-CONGESTED-indication, AAL-LINK-CONGESTION-CEASED-indication, AAL-IN-SERVICE-indication, AAL-OUT-OF-SERVICE-indication, AAL-RETRIEVED-MESSAGES-indication, AAL-RETRIEVAL-COMPLETE-indication, AAL-BSNT-confirm, AAL-BSNT-NOT-RETRIEVABLE-confirm, AA-ESTABLISH-request, AA-ESTABLISH-response, AA-RELEASE-request, AA-DATA-request, AA-RECOVER-response, AA-RETRIEVE-request, MAAL-PROVING-indication, MAAL-STOP-PROVING-indication, MAAL-REPORT-indication, Set-UPS=NM, Set-UPS=EM, Set-MPS=N, Set-MPS=NM, Set-MPS=EM, Set-LPO=0, Set-LPO=1, Set-INS-flag, Reset-INS-flag, Generate-N1, Set-C1=N1, Decrement-C1, Set, Reset, connection-up, take-BSNT, end, cell, Choice, illegal, does, chosen}
+use Rattle.table6.specs.Rows.{printed}
+use Rattle.table6.specs.Order.{rank, ranked, signals}
+use Rattle.table6.proofs.Every.{left, right}
+use Rattle.table6.specs.Words.{–, OOS, ANS, LR, SR, ALN, PDUT}
+use Rattle.table6.specs.Words.{1/1/1, 1/4/1, 2/1/2, 2/2/2, 2/10/3, 2/10/4, 3/10/5}
+use Rattle.table6.specs.EventCodes.{MESSAGE-FOR-TRANSMISSION, STOP, START, ESTABLISH-indication, ESTABLISH-confirm, RELEASE-indication, DATA-indication, T1-expired, T2-expired, T3-expired}
+use Rattle.table6.specs.SignalCodes.{RECEIVED-MESSAGE, OUT-OF-SERVICE, DATA-request, START-PROVING, STOP-PROVING, SET-T1, SET-T2, SET-T3, RESET-T1, RESET-T2, RESET-T3}
+use Rattle.table6.specs.Table6.{AAL-START-request, AAL-STOP-request, AAL-MESSAGE-FOR-TRANSMISSION-request, AA-ESTABLISH-indication-with-EM-NM, AA-ESTABLISH-confirm-with-EM-NM, AA-RELEASE-indication-from-User, AA-RELEASE-indication-from-SSCOP, AA-DATA-indication-with-INS, AA-DATA-indication-with-MU>4, T1-expires, T2-expires, T3-expires-and-C1>0, T3-expires-and-C1=0}
+use Rattle.link.specs.declared.Num.{Num}
+use Rattle.link.specs.declared.Carries.{Carries}
+use Rattle.link.specs.declared.Link.{Link}
+use Rattle.link.specs.declared.Event.{Event}
+use Rattle.link.specs.declared.Event.the-variants as event
+use Rattle.link.specs.declared.Signal.{Signal}
+use Rattle.link.specs.Effect.{with-state, with-ins, with-lpo, with-ups, with-c1, with-bsnt, with-timer, taken}
+use Rattle.link.specs.Signal.{none, num, signal, bare, signalOf}
+use Rattle.link.specs.Step.{Meeting, meeting, facts, Outcome, Illegal, Legal, outcome, stepOf}
+use Rattle.record.specs.LinkRecord.{wellFormed, linkOf}
+use Rattle.record.proofs.LinkRecord.{unpacked}
+use Rattle.event.specs.Frame.{EV, written, linkAt, codeAt, paramAt, numberAt, lengthAt, messageOf}
+use Rattle.event.specs.EventRecord.{framed, Coded, codedAt, codedIn, eventOf, misfit}
+use Rattle.event.proofs.Frame.{two-back, frame-reread}
+use Rattle.signal.specs.SignalRecord.{signalOctets}
+use Rattle.sscf.specs.Checks as checks
+use Rattle.sscf.specs.Step as call
+use Rattle.sscf.specs.Step.{badTable, records, recordAt, linkFor, unknown, idle, isIllegal, stepCall}
+use Rattle.sscf.specs.Fresh as maker
+use Rattle.sscf.specs.Fresh.{freshChecks, freshCall}
+use Rattle.sscf.specs.Untouched.{Written}
+use Rattle.sscf.proofs.Places as places
+use Rattle.sscf.proofs.Taken.{Makes, step-accepted}
+use Rattle.sscf.proofs.Untouched.{number-above, refusals-untouched, same-lengths, stays-well-formed, accepted-written}
+use Rattle.sscf.proofs.AllFresh.{fresh-well-formed}
+use Rattle.history.specs.Calls.{Call, fresh, step, signalsIn, World, made, next, run, AfterEachCall}
+use Rattle.history.specs.Pics.{Turn, _⇒_, room, Happens, linkIn, Leads, plain, asking, from-peer, coded, released, message, arriving, release, unit, report, report-uu, request, response, units, readies, completes, joins, notes, later, sooner, Brings, Serves, starts, answers, confirms, fails, SNPC1, SNPC2, SNPC3, SNPC4, SNPC5, SNPC6, toUser, toSSCOP, toManagement, toTimers, oneOf, every, SNPC6-1, SNPC7, SNPC8, SNSP1, SNSP2}
+use Rattle.history.specs.History.{Mark, history}
+use Rattle.history.specs.Tests.{alive}
+use Rattle.history.proofs.Tested.{alive-there}
+use Rattle.history.proofs.Table.{now}
+use Rattle.history.proofs.Step.{NowIs}
+use Rattle.history.proofs.Calls.{emitted-ones, long-message, made-length, Kept, after-each-call}
+
+-- ONE TURN
+
+-- a link of a good table, with a record that is well-formed
+record At (w : World) (k : ℕ) (l : Link) : Type 0 where
+  good : badTable (w .table) ≡ false
+  inside : k < records (w .table)
+  formed : wellFormed (recordAt (w .table) k) ≡ true
+  holds : linkIn w k ≡ l
+
+-- octets that are an event for a link, with a code
+record Hands (e : List ℕ) (k c : ℕ) (x : Event) : Type 0 where
+  sound : framed e ≡ true
+  known : unknown (codedIn e) ≡ false
+  fits : misfit (codeAt e) (paramAt e) (numberAt e) (lengthAt e) ≡ false
+  link : linkAt e ≡ k
+  code : codeAt e ≡ c
+  event : eventOf e ≡ x
+
+module _ (w : World) (k c : ℕ) (l : Link) (e : List ℕ) (x : Event) (a : At w (linkAt e) l) (f : Hands e k c x) (r : idle l c ≡ false) (after : Link)
+    (said : List Signal) (s : stepOf l x ≡ Legal after said) where
+  makes : Makes (w .table) e after said
+  makes = rw (a .holds, f .event) s
+
+  passes : checks.first (call.checks (w .table) e (length room)) ≡ checks.passed
+  passes =
+      places.none (call.checks (w .table) e (length room))
+      (a .good, (ap not (f .sound), (f .known, (f .fits, (lt-leb (records (w .table)) (linkAt e) (a .inside), (ap not (a .formed), (rw (a .holds, f .code) r, (ap isIllegal makes, (refl, tt)))))))))
+
+  taken-so : stepCall (w .table) e room .answer .refusal ≡ 0
+  taken-so = ap (λ (z : call.Outcome). z .answer .refusal) (step-accepted (w .table) e room passes makes)
+
+  writes : Written (w .table) e (stepCall (w .table) e room)
+  writes = accepted-written (w .table) e room taken-so
+
+  same : Legal (writes .next) (writes .signals) ≡ Legal after said
+  same = sym (writes .gives) ∙ makes
+
+  happens : Happens (w .table) (e ⇒ said)
+  happens =
+      let q : writes .signals ≡ said = cc same in
+      record { accepted = taken-so; heard = emitted-ones (w .table) e (stepCall (w .table) e room) writes ∙ ap (map (signalOctets (linkAt e) (messageOf e))) q }
+
+  stays : At (next w (step e room)) (linkAt e) after
+  unfolding next
+  stays =
+      let n = same-lengths (w .table) e room .0 in
+      let q : writes .next ≡ after = cc same in
+      record {
+        good = rw n (a .good);
+        inside = omega (arith, a .inside);
+        formed = stays-well-formed (w .table) e room (linkAt e) (a .formed);
+        holds = ap linkOf (writes .packed) ∙ unpacked (writes .next) ∙ q;
+      }
+
+-- a turn, and those that follow it
+led : {w : World} {k c : ℕ} {l : Link} {e : List ℕ} {x : Event} {after : Link} {said : List Signal} → At w k l → Hands e k c x → idle l c ≡ false →
+    stepOf l x ≡ Legal after said → (turns : List Turn) (s : State) → (At (next w (step e room)) k after → Leads (next w (step e room)) k turns s) →
+    Leads w k ((e ⇒ said) ∷ turns) s
+led {w} {k} {c} {l} {e} {x} {after} {said} a f r p turns s rest =
+    let b = subst (λ (j : ℕ). At w j l) (sym (f .link)) a in
+    (happens w k c l e x b f r after said p, rest (subst (λ (j : ℕ). At (next w (step e room)) j after) (f .link) (stays w k c l e x b f r after said p)))
+
+ended : {w : World} {k : ℕ} {l : Link} → At w k l → Leads w k [] (l .state)
+ended a = ap (λ (l : Link). l .state) (a .holds)
+
+-- AFTER EVERY SEQUENCE OF CALLS every link is such
+abbrev Sound : World → Type 0
+Sound w = (badTable (w .table) ≡ false) × ((k : ℕ) → k < records (w .table) → wellFormed (recordAt (w .table) k) ≡ true)
+
+taken-buffer : (buffer : List ℕ) (n1 : ℕ) → freshCall buffer n1 .answer ≡ 0 → badTable buffer ≡ false
+unfolding freshCall
+taken-buffer buffer n1 = by (checks.first (freshChecks buffer n1)) refl where
+  by : (v : checks.Verdict) → checks.first (freshChecks buffer n1) ≡ v → maker.made v buffer n1 .answer ≡ 0 → badTable buffer ≡ false
+  by (checks.refused x) p h = absurd (omega (arith, number-above x))
+  by checks.passed p h = places.clear (freshChecks buffer n1) p .0
+
+made-sound : (buffer : List ℕ) (n1 : ℕ) → freshCall buffer n1 .answer ≡ 0 → Sound (made buffer n1)
+made-sound buffer n1 h =
+    let g = taken-buffer buffer n1 h in
+    let n : length (freshCall buffer n1 .table) ≡ length buffer = omega (arith, made-length buffer n1 h, places.whole buffer g) in
+    (rw n g, λ k i. fresh-well-formed buffer n1 k h (omega (arith, n)))
+
+next-sound : (w : World) (c : Call) → Sound w → Sound (next w c)
+unfolding next
+next-sound w (fresh buffer n1) s = by (eqb (freshCall buffer n1 .answer) 0) refl where
+  by : (b : Bool) → eqb (freshCall buffer n1 .answer) 0 ≡ b → Sound (cond b (made buffer n1) w)
+  by true p = made-sound buffer n1 (eqb-true (freshCall buffer n1 .answer) 0 p)
+  by false p = s
+next-sound w (step e o) s =
+    let n = same-lengths (w .table) e o .0 in
+    (rw n (s .0), λ k i. stays-well-formed (w .table) e o k (s .1 k (omega (arith, n))))
+
+run-sound : (calls : List Call) (w : World) → Sound w → Sound (run w calls)
+unfolding run
+run-sound [] w s = s
+run-sound (c ∷ calls) w s = run-sound calls (next w c) (next-sound w c s)
+
+at-each : AfterEachCall (λ w k. At w k (linkIn w k))
+at-each buffer n1 h calls k i =
+    let s = run-sound calls (made buffer n1) (made-sound buffer n1 h) in
+    record { good = s .0; inside = i; formed = s .1 k i; holds = refl }
+
+kept-each : AfterEachCall (λ w k. Kept (w .n1) (recordAt (w .table) k) (history w k))
+kept-each = after-each-call (λ w k. Kept (w .n1) (recordAt (w .table) k) (history w k)) (λ w k v. v)
+
+n1-each : AfterEachCall (λ w k. linkIn w k .n1 ≡ w .n1)
+n1-each =
+    after-each-call (λ w k. linkIn w k .n1 ≡ w .n1) (λ w k v. ap (λ (r : List ℕ). linkOf r .n1) (v .octets) ∙ ap (λ (l : Link). l .n1) (unpacked (v .link)) ∙ v .inv .n1-is)
+
+-- what holds of a link in a state
+brings : (s : State) (turns : World → ℕ → List Turn) (s′ : State) → ((w : World) (k : ℕ) → At w k (with-state s (linkIn w k)) → Leads w k (turns w k) s′) → Brings s turns s′
+brings s turns s′ f buffer n1 h calls k i p =
+    let w = run (made buffer n1) calls in
+    let a = at-each buffer n1 h calls k i in
+    f w k record { good = a .good; inside = a .inside; formed = a .formed; holds = λ i. with-state (p i) (linkIn w k) }
+
+-- EVENTS
+
+hands : (k c p : ℕ) (n : Num) (m : List ℕ) {x : Event} → length m ≤ 4096 → codedAt c p n (length m) (arrived m) ≡ Coded.Of x → misfit c p n (length m) ≡ false →
+    Hands (written EV k c p n m) k c x
+unfolding written
+hands k c p n m h u v =
+    record { sound = frame-reread EV k c p n m h; known = rw (two-back (length m), u); fits = rw (two-back (length m)) v; link = two-back k; code = refl; event = rw (two-back (length m), u) }
+
+hands-start : (k : ℕ) → Hands (plain START k) k START event.Start
+unfolding codedAt misfit
+hands-start k = hands k START 0 none [] (omega arith) refl refl
+
+hands-stop : (k : ℕ) → Hands (plain STOP k) k STOP event.Stop
+unfolding codedAt misfit
+hands-stop k = hands k STOP 0 none [] (omega arith) refl refl
+
+hands-t1 : (k : ℕ) → Hands (plain T1-expired k) k T1-expired event.T1
+unfolding codedAt misfit
+hands-t1 k = hands k T1-expired 0 none [] (omega arith) refl refl
+
+hands-t2 : (k : ℕ) → Hands (plain T2-expired k) k T2-expired event.T2
+unfolding codedAt misfit
+hands-t2 k = hands k T2-expired 0 none [] (omega arith) refl refl
+
+hands-t3 : (k : ℕ) → Hands (plain T3-expired k) k T3-expired event.T3
+unfolding codedAt misfit
+hands-t3 k = hands k T3-expired 0 none [] (omega arith) refl refl
+
+hands-indication : (peer : Ups) (k : ℕ) → Hands (from-peer ESTABLISH-indication peer k) k ESTABLISH-indication (event.EstablishIndication (asking peer))
+unfolding codedAt misfit decoded
+hands-indication Ups.Normal k = hands k ESTABLISH-indication (asking Ups.Normal) none [] (omega arith) refl refl
+hands-indication Ups.Emergency k = hands k ESTABLISH-indication (asking Ups.Emergency) none [] (omega arith) refl refl
+
+hands-confirm : (peer : Ups) (k : ℕ) → Hands (from-peer ESTABLISH-confirm peer k) k ESTABLISH-confirm (event.EstablishConfirm (asking peer))
+unfolding codedAt misfit decoded
+hands-confirm Ups.Normal k = hands k ESTABLISH-confirm (asking Ups.Normal) none [] (omega arith) refl refl
+hands-confirm Ups.Emergency k = hands k ESTABLISH-confirm (asking Ups.Emergency) none [] (omega arith) refl refl
+
+hands-release : (source : ℕ) → source ≤ 1 → (f : Field) (k : ℕ) → Hands (released source f k) k RELEASE-indication (event.ReleaseIndication (coded f) source)
+unfolding codedAt misfit decoded
+hands-release source h f k = hands k RELEASE-indication (coded f) (num 0 0 source) [] (omega arith) refl (fitting f) where
+  fitting : (f : Field) → misfit RELEASE-indication (coded f) (num 0 0 source) 0 ≡ false
+  fitting (Field.Named Status.OOS) = rw (le-leb source 1 h)
+  fitting (Field.Named Status.PO) = rw (le-leb source 1 h)
+  fitting (Field.Named Status.INS) = rw (le-leb source 1 h)
+  fitting (Field.Named Status.NM) = rw (le-leb source 1 h)
+  fitting (Field.Named Status.EM) = rw (le-leb source 1 h)
+  fitting (Field.Named Status.ANS) = rw (le-leb source 1 h)
+  fitting (Field.Named Status.MI) = rw (le-leb source 1 h)
+  fitting (Field.Named Status.PE) = rw (le-leb source 1 h)
+  fitting (Field.Named Status.PNS) = rw (le-leb source 1 h)
+  fitting Field.Unnamed = rw (le-leb source 1 h)
+
+hands-ins : (n : Num) (k : ℕ) → Hands (arriving (unitOf Status.INS) n k) k DATA-indication (event.Data Arrived.INS n)
+unfolding codedAt misfit unitOf kind arrived
+hands-ins n k = hands k DATA-indication 0 n (unitOf Status.INS) (omega arith) refl refl
+
+hands-data : (m : List ℕ) (n : Num) (k : ℕ) → 5 ≤ length m → length m ≤ 4096 → Hands (arriving m n k) k DATA-indication (event.Data Arrived.Long n)
+unfolding codedAt misfit
+hands-data m n k h i = hands k DATA-indication 0 n m i (rw (long-message m h)) refl
+
+hands-message : (m : List ℕ) (k : ℕ) → 5 ≤ length m → length m ≤ 4096 → Hands (message m k) k MESSAGE-FOR-TRANSMISSION event.Message
+unfolding codedAt misfit
+hands-message m k h i = hands k MESSAGE-FOR-TRANSMISSION 0 none m i refl (rw (lt-leb (length m) 4 h))
+
+-- WHAT TABLE 6 GIVES, whatever else the record holds
+
+module _ (l : Link) where
+  start-idle : stepOf (with-state 1/1/1 l) event.Start ≡ Legal (with-state 2/2/2 (with-timer T2 true l)) (request l ∷ report – ALN – ∷ bare SET-T2 ∷ [])
+  unfolding stepOf AAL-START-request
+  start-idle = refl
+
+  start-disconnecting : stepOf (with-state 1/4/1 l) event.Start ≡ Legal (with-state 2/2/2 (with-timer T2 true l)) (request l ∷ report – ALN – ∷ bare SET-T2 ∷ [])
+  unfolding stepOf AAL-START-request
+  start-disconnecting = refl
+
+  given-up : (f : ℕ) → stepOf (with-state 2/2/2 l) (event.ReleaseIndication f 1) ≡ Legal (with-state 2/1/2 (with-timer T1 true l)) (report SR – – ∷ bare SET-T1 ∷ [])
+  unfolding stepOf AA-RELEASE-indication-from-SSCOP
+  given-up f = refl
+
+  tries-again : stepOf (with-state 2/1/2 l) event.T1 ≡ Legal (with-state 2/2/2 (with-timer T1 false l)) (request l ∷ [])
+  unfolding stepOf T1-expires
+  tries-again = refl
+
+  abandoned : stepOf (with-state 2/2/2 l) event.T2
+      ≡ Legal (with-state 1/4/1 (with-ups Ups.Normal (with-timer T2 false l))) (release Status.ANS ∷ bare OUT-OF-SERVICE ∷ report LR OOS ANS ∷ [])
+  unfolding stepOf T2-expires
+  abandoned = refl
+
+  out-by-user : (f : Field) →
+      stepOf (with-state 3/10/5 l) (event.ReleaseIndication (coded f) 0) ≡ Legal (with-state 1/1/1 (with-ups Ups.Normal l)) (bare OUT-OF-SERVICE ∷ report-uu f ∷ [])
+  unfolding stepOf AA-RELEASE-indication-from-User
+  out-by-user f = refl
+
+  out-by-SSCOP : (f : ℕ) →
+      stepOf (with-state 3/10/5 l) (event.ReleaseIndication f 1) ≡ Legal (with-state 1/1/1 (with-ups Ups.Normal l)) (bare OUT-OF-SERVICE ∷ report SR OOS – ∷ [])
+  unfolding stepOf AA-RELEASE-indication-from-SSCOP
+  out-by-SSCOP f = refl
+
+  received : (n : Num) →
+      stepOf (with-state 3/10/5 l) (event.Data Arrived.Long n) ≡ Legal (with-state 3/10/5 (with-bsnt (taken n) l)) (signal RECEIVED-MESSAGE 0 none Carries.Message ∷ [])
+  unfolding stepOf AA-DATA-indication-with-MU>4
+  received n = refl
+
+  transmitted : stepOf (with-state 3/10/5 l) event.Message ≡ Legal (with-state 3/10/5 l) (signal DATA-request 0 none Carries.Message ∷ report – – PDUT ∷ [])
+  unfolding stepOf AAL-MESSAGE-FOR-TRANSMISSION-request
+  transmitted = refl
+
+  stop-proving : stepOf (with-state 2/10/3 l) event.Stop
+      ≡ Legal (with-state 1/4/1 (with-ups Ups.Normal (with-timer T3 false (with-timer T2 false l)))) (release Status.OOS ∷ report LR OOS – ∷ bare STOP-PROVING ∷ bare RESET-T2 ∷ bare RESET-T3 ∷ [])
+  unfolding stepOf AAL-STOP-request
+  stop-proving = refl
+
+  stop-aligned : stepOf (with-state 2/10/4 l) event.Stop
+      ≡ Legal (with-state 1/4/1 (with-ups Ups.Normal (with-timer T2 false l))) (release Status.OOS ∷ report LR OOS – ∷ bare RESET-T2 ∷ [])
+  unfolding stepOf AAL-STOP-request
+  stop-aligned = refl
+
+  stop-serving : stepOf (with-state 3/10/5 l) event.Stop ≡ Legal (with-state 1/4/1 (with-ups Ups.Normal l)) (release Status.OOS ∷ report LR OOS – ∷ [])
+  unfolding stepOf AAL-STOP-request
+  stop-serving = refl
+
+  -- in 2/10/3 with T3 running, so many units to go, and the peer's INS unit received or not
+  abbrev proving : Bool → ℕ → Link
+  proving ins c = with-c1 c (with-ins ins (with-state 2/10/3 (with-timer T3 true l)))
+
+  abbrev due : Ups → ℕ
+  due peer = table7 (l .mps) (l .ups) peer (l .n1)
+
+  confirmed : (peer : Ups) (k : ℕ) → stepOf (with-state 2/2/2 l) (event.EstablishConfirm (asking peer)) ≡ Legal (proving false (due peer)) (confirms peer k .signals)
+  unfolding stepOf AA-ESTABLISH-confirm-with-EM-NM asked
+  confirmed Ups.Normal k = refl
+  confirmed Ups.Emergency k = refl
+
+  one-unit : (ins : Bool) (c : ℕ) → stepOf (proving ins (suc c)) event.T3 ≡ Legal (proving ins c) (unit Status.NM ∷ bare SET-T3 ∷ [])
+  unfolding stepOf T3-expires-and-C1>0
+  one-unit ins c = rw (ne-eqb (suc c) 0 (λ e. omega arith), less-one c) where
+    less-one : (c : ℕ) → suc c - 1 ≡ c
+    less-one c = omega arith
+
+  noted : (c : ℕ) (n : Num) (k : ℕ) → stepOf (proving false c) (event.Data Arrived.INS n) ≡ Legal (with-bsnt (taken n) (proving true c)) (notes n k .signals)
+  unfolding stepOf AA-DATA-indication-with-INS
+  noted c n k = refl
+
+  aligned : (k : ℕ) → stepOf (with-lpo false (proving false 0)) event.T3 ≡ Legal (with-state 2/10/4 (with-timer T3 false (with-lpo false (proving false 0)))) (readies k .signals)
+  unfolding stepOf T3-expires-and-C1=0
+  aligned k = refl
+
+  at-once : (k : ℕ) →
+      stepOf (with-lpo false (proving true 0)) event.T3
+      ≡ Legal (with-state 3/10/5 (with-timer T2 false (with-timer T3 false (with-lpo false (proving true 0))))) (completes k .signals)
+  unfolding stepOf T3-expires-and-C1=0
+  at-once k = refl
+
+  peer-ready : (n : Num) (k : ℕ) →
+      stepOf (with-state 2/10/4 l) (event.Data Arrived.INS n) ≡ Legal (with-state 3/10/5 (with-timer T2 false (with-bsnt (taken n) l))) (joins n k .signals)
+  unfolding stepOf AA-DATA-indication-with-INS
+  peer-ready n k = refl
+
+answered : (l : Link) (peer : Ups) →
+    stepOf (with-state 2/1/2 l) (event.EstablishIndication (asking peer))
+    ≡ Legal (proving (with-timer T1 false l) false (due l peer)) (response l ∷ bare START-PROVING ∷ bare RESET-T1 ∷ bare SET-T3 ∷ [])
+unfolding stepOf AA-ESTABLISH-indication-with-EM-NM asked
+answered l Ups.Normal = refl
+answered l Ups.Emergency = refl
+
+-- INTO SERVICE
+
+units-lead : (k : ℕ) (l : Link) (ins : Bool) (a c : ℕ) (turns : List Turn) (s : State) → ((w : World) → At w k (proving l ins c) → Leads w k turns s) → (w : World) →
+    At w k (proving l ins (a + c)) → Leads w k (units a k ++ turns) s
+units-lead k l ins zero c turns s rest w at = rest w (subst (λ (d : ℕ). At w k (proving l ins d)) (omega arith) at)
+units-lead k l ins (suc a) c turns s rest w at =
+    led (subst (λ (d : ℕ). At w k (proving l ins d)) (more a c) at) (hands-t3 k) refl (one-unit l ins (a + c)) (units a k ++ turns) s
+    (λ b. units-lead k l ins a c turns s rest (next w (step (plain T3-expired k) room)) b)
+  where
+    more : (a c : ℕ) → suc a + c ≡ suc (a + c)
+    more a c = omega arith
+
+later-leads : (k : ℕ) (l : Link) (d : ℕ) (n : Num) (w : World) → At w k (proving (with-lpo false l) false d) → Leads w k (later d n k) 3/10/5
+later-leads k l d n w at =
+    units-lead k (with-lpo false l) false d 0 (readies k ∷ joins n k ∷ []) 3/10/5
+    (λ w b. led b (hands-t3 k) refl (aligned l k) (joins n k ∷ []) 3/10/5
+    (λ b. led b (hands-ins n k) refl (peer-ready (with-timer T3 false (with-lpo false (proving l false 0))) n k) [] 3/10/5 ended)) w
+    (subst (λ (c : ℕ). At w k (proving (with-lpo false l) false c)) (omega arith) at)
+
+sooner-leads : (k : ℕ) (l : Link) (a b : ℕ) (n : Num) (w : World) → At w k (proving (with-lpo false l) false (a + b)) → Leads w k (sooner a b n k) 3/10/5
+sooner-leads k l a b n =
+    let m = with-bsnt (taken n) l in
+    units-lead k (with-lpo false l) false a b (notes n k ∷ units b k ++ completes k ∷ []) 3/10/5
+    (λ w at. let w′ = next w (step (arriving (unitOf Status.INS) n k) room) in
+    led at (hands-ins n k) refl (noted (with-lpo false l) b n k) (units b k ++ completes k ∷ []) 3/10/5
+    (λ at. units-lead k (with-lpo false m) true b 0 (completes k ∷ []) 3/10/5 (λ w at. led at (hands-t3 k) refl (at-once m k) [] 3/10/5 ended) w′
+    (subst (λ (c : ℕ). At w′ k (proving (with-lpo false m) true c)) (omega arith) at)))
+
+-- into service after turns that bring the connection up, with C1 decided
+module _ (s : State) (peer : Ups) (turns : World → ℕ → List Turn) (then : Link → Link)
+    (up : (w : World) (k : ℕ) → At w k (with-state s (with-lpo false (linkIn w k))) →
+    (more : List Turn) → ((w′ : World) → At w′ k (proving (with-lpo false (then (linkIn w k))) false (due (linkIn w k) peer)) → Leads w′ k more 3/10/5) →
+    Leads w k (turns w k ++ more) 3/10/5) where
+  into-service : Serves s peer turns
+  into-service buffer n1 h calls k i p q n a b e =
+      let w = run (made buffer n1) calls in
+      let l = linkIn w k in
+      let x = at-each buffer n1 h calls k i in
+      let here : At w k (with-state s (with-lpo false l)) = record { good = x .good; inside = x .inside; formed = x .formed; holds = λ i. with-state (p i) (with-lpo (q i) l) } in
+      let d : due l peer ≡ a + b = ap (table7 (l .mps) (l .ups) peer) (n1-each buffer n1 h calls k i) ∙ sym e in
+      let so : (w′ : World) → At w′ k (proving (with-lpo false (then l)) false (due l peer)) → At w′ k (proving (with-lpo false (then l)) false (a + b)) =
+      λ w′. subst (λ (c : ℕ). At w′ k (proving (with-lpo false (then l)) false c)) d in (
+        up w k here (later (a + b) n k) (λ w′ x. later-leads k (then l) (a + b) n w′ (so w′ x)),
+        up w k here (sooner a b n k) (λ w′ x. sooner-leads k (then l) a b n w′ (so w′ x)),
+      )
+
+-- THE ITEMS
+
+pub snpc1 : SNPC1
+snpc1 =
+    record {
+      waiting = λ peer. into-service 2/1/2 peer (λ w k. answers peer w k ∷ []) (with-timer T1 false)
+          (λ w k a more rest. led a (hands-indication peer k) refl (answered (with-lpo false (linkIn w k)) peer) more 3/10/5 (rest (next w (step (from-peer ESTABLISH-indication peer k) room))));
+      after-START = λ peer f. into-service 1/1/1 peer (λ w k. starts w k ∷ fails f k ∷ answers peer w k ∷ []) (λ l. with-timer T1 false (with-timer T1 true (with-timer T2 true l)))
+          (λ w k a more rest. let l = with-timer T2 true (with-lpo false (linkIn w k)) in
+          let w₁ = next w (step (plain START k) room) in
+          let w₂ = next w₁ (step (released 1 f k) room) in
+          led a (hands-start k) refl (start-idle (with-lpo false (linkIn w k))) (fails f k ∷ answers peer w k ∷ more) 3/10/5
+          (λ a. led a (hands-release 1 (omega arith) f k) refl (given-up l (coded f)) (answers peer w k ∷ more) 3/10/5
+          (λ a. led a (hands-indication peer k) refl (answered (with-timer T1 true l) peer) more 3/10/5 (rest (next w₂ (step (from-peer ESTABLISH-indication peer k) room))))));
+    }
+
+pub snpc2 : SNPC2
+snpc2 peer = brings 2/1/2 (λ w k. answers peer w k ∷ []) 2/10/3 (λ w k a. led a (hands-indication peer k) refl (answered (linkIn w k) peer) [] 2/10/3 ended)
+
+pub snpc3 : SNPC3
+snpc3 =
+    record {
+      by-far-user = λ f. brings 3/10/5 (λ w k. (released 0 f k ⇒ bare OUT-OF-SERVICE ∷ report-uu f ∷ []) ∷ []) 1/1/1
+          (λ w k a. led a (hands-release 0 (omega arith) f k) refl (out-by-user (linkIn w k) f) [] 1/1/1 ended);
+      by-SSCOP = λ f. brings 3/10/5 (λ w k. (released 1 f k ⇒ bare OUT-OF-SERVICE ∷ report SR OOS – ∷ []) ∷ []) 1/1/1
+          (λ w k a. led a (hands-release 1 (omega arith) f k) refl (out-by-SSCOP (linkIn w k) (coded f)) [] 1/1/1 ended);
+    }
+
+pub snpc4 : SNPC4
+snpc4 =
+    record {
+      idle = brings 1/1/1 (λ w k. starts w k ∷ []) 2/2/2 (λ w k a. led a (hands-start k) refl (start-idle (linkIn w k)) [] 2/2/2 ended);
+      disconnecting = brings 1/4/1 (λ w k. starts w k ∷ []) 2/2/2 (λ w k a. led a (hands-start k) refl (start-disconnecting (linkIn w k)) [] 2/2/2 ended);
+    }
+
+pub snpc5 : SNPC5
+snpc5 =
+    record {
+      asked = λ peer. into-service 2/2/2 peer (λ w k. confirms peer k ∷ []) (λ l. l)
+          (λ w k a more rest. led a (hands-confirm peer k) refl (confirmed (with-lpo false (linkIn w k)) peer k) more 3/10/5 (rest (next w (step (from-peer ESTABLISH-confirm peer k) room))));
+      after-START = λ peer. into-service 1/1/1 peer (λ w k. starts w k ∷ confirms peer k ∷ []) (with-timer T2 true)
+          (λ w k a more rest. let w₁ = next w (step (plain START k) room) in
+          led a (hands-start k) refl (start-idle (with-lpo false (linkIn w k))) (confirms peer k ∷ more) 3/10/5
+          (λ a. led a (hands-confirm peer k) refl (confirmed (with-timer T2 true (with-lpo false (linkIn w k))) peer k) more 3/10/5 (rest (next w₁ (step (from-peer ESTABLISH-confirm peer k) room)))));
+    }
+
+-- a connection is present in three states, by the invariant
+module _ (w : World) (k n1 : ℕ) (h : List Mark) (l : Link) (a : At w k l) (up : alive h ≡ true) where
+  abbrev Releases : Type 0
+  Releases = (rest : List Signal) × Leads w k ((plain STOP k ⇒ release Status.OOS ∷ rest) ∷ []) 1/4/1
+
+  none-there : alive h ≡ false → Releases
+  none-there v = absurd (true≢false (sym up ∙ v))
+
+  there : {s : State} → l .state ≡ s → At w k (with-state s l)
+  there p = record { good = a .good; inside = a .inside; formed = a .formed; holds = a .holds ∙ (λ i. with-state (p i) l) }
+
+  releases : (s : State) → l .state ≡ s → NowIs n1 (now s (l .ins)) (l .c1) h → Releases
+  releases State.S111 p v = none-there v
+  releases State.S141 p v = none-there v
+  releases State.S212 p v = none-there v
+  releases State.S222 p v = none-there v
+  releases State.S242 p v = none-there v
+  releases State.S2103 p v = (_, led (there p) (hands-stop k) refl (stop-proving l) [] 1/4/1 ended)
+  releases State.S2104 p v = (_, led (there p) (hands-stop k) refl (stop-aligned l) [] 1/4/1 ended)
+  releases State.S3105 p v = (_, led (there p) (hands-stop k) refl (stop-serving l) [] 1/4/1 ended)
+
+pub snpc6 : SNPC6
+snpc6 buffer n1 h calls k i c =
+    let w = run (made buffer n1) calls in
+    let x = at-each buffer n1 h calls k i in
+    let v = kept-each buffer n1 h calls k i in
+    let a : At w k (v .link) = record { good = x .good; inside = x .inside; formed = x .formed; holds = ap linkOf (v .octets) ∙ unpacked (v .link) } in
+    releases w k (w .n1) (history w k) (v .link) a (alive-there c) (v .link .state) refl (v .inv .now-is)
+
+-- SNPC6.1: every action that is a signal has one of the codes
+abbrev all : List ℕ
+all = toUser ++ toSSCOP ++ toManagement ++ toTimers
+
+abbrev coding : Signal → ℕ
+coding s = s .code
+
+module _ (p : ℕ) (n : Num) (mps : Mps) (ups : Ups) (b : Num) where
+  abbrev said : Act → Signal
+  said = signalOf p n mps ups b
+
+  meant : (a : Act) → (rank a ≡ 0) ⊎ (oneOf all (said a .code) ≡ true)
+  meant AAL-RECEIVED-MESSAGE-indication = inr refl
+  meant AAL-LINK-CONGESTED-indication = inr refl
+  meant AAL-LINK-CONGESTION-CEASED-indication = inr refl
+  meant AAL-IN-SERVICE-indication = inr refl
+  meant AAL-OUT-OF-SERVICE-indication = inr refl
+  meant AAL-RETRIEVED-MESSAGES-indication = inr refl
+  meant AAL-RETRIEVAL-COMPLETE-indication = inr refl
+  meant AAL-BSNT-confirm = inr refl
+  meant AAL-BSNT-NOT-RETRIEVABLE-confirm = inr refl
+  meant AA-ESTABLISH-request = inr refl
+  meant AA-ESTABLISH-response = inr refl
+  meant (AA-RELEASE-request uu) = inr refl
+  meant (AA-DATA-request x) = inr refl
+  meant AA-RECOVER-response = inr refl
+  meant AA-RETRIEVE-request = inr refl
+  meant MAAL-PROVING-indication = inr refl
+  meant MAAL-STOP-PROVING-indication = inr refl
+  meant (MAAL-REPORT-indication x y z) = inr refl
+  meant Set-UPS=NM = inl refl
+  meant Set-UPS=EM = inl refl
+  meant Set-MPS=N = inl refl
+  meant Set-MPS=NM = inl refl
+  meant Set-MPS=EM = inl refl
+  meant Set-LPO=0 = inl refl
+  meant Set-LPO=1 = inl refl
+  meant Set-INS-flag = inl refl
+  meant Reset-INS-flag = inl refl
+  meant Generate-N1 = inl refl
+  meant Set-C1=N1 = inl refl
+  meant Decrement-C1 = inl refl
+  meant (Set T1) = inr refl
+  meant (Set T2) = inr refl
+  meant (Set T3) = inr refl
+  meant (Reset T1) = inr refl
+  meant (Reset T2) = inr refl
+  meant (Reset T3) = inr refl
+  meant connection-up = inl refl
+  meant take-BSNT = inl refl
+  meant (end t) = inl refl
+
+  abbrev Meant : List Act → Type 0
+  Meant acts = every (oneOf all) (map coding (map said acts)) ≡ true
+
+  of-rank : (r : ℕ) → 1 ≤ r → (acts : List Act) → Meant (ranked r acts)
+  of-rank r h [] = refl
+  of-rank r h (a ∷ acts) = by (of-rank r h acts) (eqb (rank a) r) refl (meant a) where
+    by : Meant (ranked r acts) → (t : Bool) → eqb (rank a) r ≡ t → (rank a ≡ 0) ⊎ (oneOf all (said a .code) ≡ true) → Meant (cond t (a ∷ ranked r acts) (ranked r acts))
+    by m true e (inl z) = absurd (omega (arith, eqb-true (rank a) r e))
+    by m true e (inr q) = rw q m
+    by m false e c = m
+
+  joined : (xs ys : List Act) → Meant xs → Meant ys → Meant (xs ++ ys)
+  joined [] ys p q = q
+  joined (a ∷ xs) ys p q =
+      let m : oneOf all (said a .code) ≡ true = left (oneOf all (said a .code)) (every (oneOf all) (map coding (map said xs))) p in
+      rw m (joined xs ys (right (oneOf all (said a .code)) (every (oneOf all) (map coding (map said xs))) p) q)
+
+  all-meant : (acts : List Act) → Meant (signals acts)
+  all-meant acts =
+      let r : ℕ → List Act = λ i. ranked i acts in
+      joined (r 1 ++ r 2 ++ r 3 ++ r 4 ++ r 5 ++ r 6) (r 7)
+      (joined (r 1 ++ r 2 ++ r 3 ++ r 4 ++ r 5) (r 6)
+      (joined (r 1 ++ r 2 ++ r 3 ++ r 4) (r 5)
+      (joined (r 1 ++ r 2 ++ r 3) (r 4)
+      (joined (r 1 ++ r 2) (r 3) (joined (r 1) (r 2) (of-rank 1 (omega arith) acts) (of-rank 2 (omega arith) acts)) (of-rank 3 (omega arith) acts))
+      (of-rank 4 (omega arith) acts)) (of-rank 5 (omega arith) acts)) (of-rank 6 (omega arith) acts)) (of-rank 7 (omega arith) acts)
+
+abbrev Coded? : Outcome → Type 0
+Coded? Illegal = Unit {0}
+Coded? (Legal l ss) = every (oneOf all) (map coding ss) ≡ true
+
+of-choice : (l : Link) (m : Meeting) (c : Choice) → Coded? (outcome l m c)
+of-choice l m illegal = tt
+of-choice l m (does acts next) = all-meant (m .param) (m .number) (l .mps) (l .ups) (l .bsnt .num) acts
+
+of-step : (l : Link) (x : Event) → Coded? (stepOf l x)
+unfolding stepOf
+of-step l x = let m = meeting x (l .c1) in of-choice l m (chosen (facts l m) (cell (printed (facts l m) (m .heading .row)) (l .state)))
+
+read-codes : (k : ℕ) (m : List ℕ) (ss : List Signal) → map codeAt (map (signalOctets k m) ss) ≡ map coding ss
+unfolding written
+read-codes k m [] = refl
+read-codes k m (s ∷ ss) = ap (λ (cs : List ℕ). s .code ∷ cs) (read-codes k m ss)
+
+pub snpc6-1 : SNPC6-1
+snpc6-1 t e o = by (eqb (stepCall t e o .answer .refusal) 0) refl where
+  by : (b : Bool) → eqb (stepCall t e o .answer .refusal) 0 ≡ b → every (oneOf all) (map codeAt (signalsIn (stepCall t e o))) ≡ true
+  by true q =
+      let x = accepted-written t e o (eqb-true (stepCall t e o .answer .refusal) 0 q) in
+      rw (emitted-ones t e (stepCall t e o) x, read-codes (linkAt e) (messageOf e) (x .signals)) (subst Coded? (x .gives) (of-step (linkFor t e) (eventOf e)))
+  by false q =
+      let r : 1 ≤ stepCall t e o .answer .refusal = omega (arith, eqb-false (stepCall t e o .answer .refusal) 0 q) in
+      ap (λ (z : call.Outcome). every (oneOf all) (map codeAt (signalsIn z))) (refusals-untouched t e o r)
+
+pub snpc7 : SNPC7
+snpc7 m n h i =
+    brings 3/10/5 (λ w k. (arriving m n k ⇒ signal RECEIVED-MESSAGE 0 none Carries.Message ∷ []) ∷ []) 3/10/5
+    (λ w k a. led a (hands-data m n k h i) refl (received (linkIn w k) n) [] 3/10/5 ended)
+
+pub snpc8 : SNPC8
+snpc8 m h i =
+    brings 3/10/5 (λ w k. (message m k ⇒ signal DATA-request 0 none Carries.Message ∷ report – – PDUT ∷ []) ∷ []) 3/10/5
+    (λ w k a. led a (hands-message m k h i) refl (transmitted (linkIn w k)) [] 3/10/5 ended)
+
+pub snsp1 : SNSP1
+snsp1 f =
+    brings 2/2/2 (λ w k. fails f k ∷ (plain T1-expired k ⇒ request (linkIn w k) ∷ []) ∷ []) 2/2/2
+    (λ w k a. led a (hands-release 1 (omega arith) f k) refl (given-up (linkIn w k) (coded f)) ((plain T1-expired k ⇒ request (linkIn w k) ∷ []) ∷ []) 2/2/2
+    (λ a. led a (hands-t1 k) refl (tries-again (with-timer T1 true (linkIn w k))) [] 2/2/2 ended))
+
+pub snsp2 : SNSP2
+snsp2 =
+    brings 1/1/1 (λ w k. starts w k ∷ (plain T2-expired k ⇒ release Status.ANS ∷ bare OUT-OF-SERVICE ∷ report LR OOS ANS ∷ []) ∷ []) 1/4/1
+    (λ w k a. led a (hands-start k) refl (start-idle (linkIn w k)) ((plain T2-expired k ⇒ release Status.ANS ∷ bare OUT-OF-SERVICE ∷ report LR OOS ANS ∷ []) ∷ []) 1/4/1
+    (λ a. led a (hands-t2 k) refl (abandoned (with-timer T2 true (linkIn w k))) [] 1/4/1 ended))
