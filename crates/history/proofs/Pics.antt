@@ -16,14 +16,14 @@ use Rattle.unit.specs.declared.Ups.{Ups}
 use Rattle.unit.specs.Unit.{unitOf, kind, arrived, decoded}
 use Rattle.unit.specs.Proving.{asked, table7}
 use Rattle.table6.specs.declared.State.{State}
-use Rattle.table6.specs.Cell.{T1, T2, T3, Act, AAL-RECEIVED-MESSAGE-indication, AAL-LINK-CONGESTED-indication, AAL-LINK-CONGESTION-CEASED-indication, AAL-IN-SERVICE-indication, AAL-OUT-OF-SERVICE-indication, AAL-RETRIEVED-MESSAGES-indication, AAL-RETRIEVAL-COMPLETE-indication, AAL-BSNT-confirm, AAL-BSNT-NOT-RETRIEVABLE-confirm, AA-ESTABLISH-request, AA-ESTABLISH-response, AA-RELEASE-request, AA-DATA-request, AA-RECOVER-response, AA-RETRIEVE-request, MAAL-PROVING-indication, MAAL-STOP-PROVING-indication, MAAL-REPORT-indication, Set-UPS=NM, Set-UPS=EM, Set-MPS=N, Set-MPS=NM, Set-MPS=EM, Set-LPO=0, Set-LPO=1, Set-INS-flag, Reset-INS-flag, Generate-N1, Set-C1=N1, Decrement-C1, Set, Reset, connection-up, take-BSNT, end, cell, Choice, illegal, does, chosen}
+use Rattle.table6.specs.Cell.{T1, T2, T3, Told, cell, Choice, illegal, does, chosen}
 use Rattle.table6.specs.Rows.{printed}
-use Rattle.table6.specs.Order.{rank, ranked, signals}
+use Rattle.table6.specs.Order.{signals}
 use Rattle.table6.proofs.Every.{left, right}
 use Rattle.table6.specs.Words.{–, OOS, ANS, LR, SR, ALN, PDUT}
 use Rattle.table6.specs.Words.{1/1/1, 1/4/1, 2/1/2, 2/2/2, 2/10/3, 2/10/4, 3/10/5}
 use Rattle.table6.specs.EventCodes.{MESSAGE-FOR-TRANSMISSION, STOP, START, ESTABLISH-indication, ESTABLISH-confirm, RELEASE-indication, DATA-indication, T1-expired, T2-expired, T3-expired}
-use Rattle.table6.specs.SignalCodes.{RECEIVED-MESSAGE, OUT-OF-SERVICE, DATA-request, START-PROVING, STOP-PROVING, SET-T1, SET-T2, SET-T3, RESET-T1, RESET-T2, RESET-T3}
+use Rattle.table6.specs.SignalCodes.{code, RECEIVED-MESSAGE, OUT-OF-SERVICE, DATA-request, START-PROVING, STOP-PROVING, SET-T1, SET-T2, SET-T3, RESET-T1, RESET-T2, RESET-T3}
 use Rattle.table6.specs.Table6.{AAL-START-request, AAL-STOP-request, AAL-MESSAGE-FOR-TRANSMISSION-request, AA-ESTABLISH-indication-with-EM-NM, AA-ESTABLISH-confirm-with-EM-NM, AA-RELEASE-indication-from-User, AA-RELEASE-indication-from-SSCOP, AA-DATA-indication-with-INS, AA-DATA-indication-with-MU>4, T1-expires, T2-expires, T3-expires-and-C1>0, T3-expires-and-C1=0}
 use Rattle.link.specs.declared.Num.{Num}
 use Rattle.link.specs.declared.Carries.{Carries}
@@ -462,84 +462,42 @@ snpc6 buffer n1 h calls k i c =
     let a : At w k (v .link) = record { good = x .good; inside = x .inside; formed = x .formed; holds = ap linkOf (v .octets) ∙ unpacked (v .link) } in
     releases w k (w .n1) (history w k) (v .link) a (alive-there c) (v .link .state) refl (v .inv .now-is)
 
--- SNPC6.1: every action that is a signal has one of the codes
+-- SNPC6.1: whatever is told has one of the codes
 abbrev all : List ℕ
 all = toUser ++ toSSCOP ++ toManagement ++ toTimers
 
 abbrev coding : Signal → ℕ
 coding s = s .code
 
-module _ (p : ℕ) (n : Num) (mps : Mps) (ups : Ups) (b : Num) where
-  abbrev said : Act → Signal
-  said = signalOf p n mps ups b
+listed : (a : Told) → oneOf all (code a) ≡ true
+listed Told.AAL-RECEIVED-MESSAGE-indication = refl
+listed Told.AAL-LINK-CONGESTED-indication = refl
+listed Told.AAL-LINK-CONGESTION-CEASED-indication = refl
+listed Told.AAL-IN-SERVICE-indication = refl
+listed Told.AAL-OUT-OF-SERVICE-indication = refl
+listed Told.AAL-RETRIEVED-MESSAGES-indication = refl
+listed Told.AAL-RETRIEVAL-COMPLETE-indication = refl
+listed Told.AAL-BSNT-confirm = refl
+listed Told.AAL-BSNT-NOT-RETRIEVABLE-confirm = refl
+listed Told.AA-ESTABLISH-request = refl
+listed Told.AA-ESTABLISH-response = refl
+listed (Told.AA-RELEASE-request uu) = refl
+listed (Told.AA-DATA-request x) = refl
+listed Told.AA-RECOVER-response = refl
+listed Told.AA-RETRIEVE-request = refl
+listed Told.MAAL-PROVING-indication = refl
+listed Told.MAAL-STOP-PROVING-indication = refl
+listed (Told.MAAL-REPORT-indication x y z) = refl
+listed (Told.Set T1) = refl
+listed (Told.Set T2) = refl
+listed (Told.Set T3) = refl
+listed (Told.Reset T1) = refl
+listed (Told.Reset T2) = refl
+listed (Told.Reset T3) = refl
 
-  meant : (a : Act) → (rank a ≡ 0) ⊎ (oneOf all (said a .code) ≡ true)
-  meant AAL-RECEIVED-MESSAGE-indication = inr refl
-  meant AAL-LINK-CONGESTED-indication = inr refl
-  meant AAL-LINK-CONGESTION-CEASED-indication = inr refl
-  meant AAL-IN-SERVICE-indication = inr refl
-  meant AAL-OUT-OF-SERVICE-indication = inr refl
-  meant AAL-RETRIEVED-MESSAGES-indication = inr refl
-  meant AAL-RETRIEVAL-COMPLETE-indication = inr refl
-  meant AAL-BSNT-confirm = inr refl
-  meant AAL-BSNT-NOT-RETRIEVABLE-confirm = inr refl
-  meant AA-ESTABLISH-request = inr refl
-  meant AA-ESTABLISH-response = inr refl
-  meant (AA-RELEASE-request uu) = inr refl
-  meant (AA-DATA-request x) = inr refl
-  meant AA-RECOVER-response = inr refl
-  meant AA-RETRIEVE-request = inr refl
-  meant MAAL-PROVING-indication = inr refl
-  meant MAAL-STOP-PROVING-indication = inr refl
-  meant (MAAL-REPORT-indication x y z) = inr refl
-  meant Set-UPS=NM = inl refl
-  meant Set-UPS=EM = inl refl
-  meant Set-MPS=N = inl refl
-  meant Set-MPS=NM = inl refl
-  meant Set-MPS=EM = inl refl
-  meant Set-LPO=0 = inl refl
-  meant Set-LPO=1 = inl refl
-  meant Set-INS-flag = inl refl
-  meant Reset-INS-flag = inl refl
-  meant Generate-N1 = inl refl
-  meant Set-C1=N1 = inl refl
-  meant Decrement-C1 = inl refl
-  meant (Set T1) = inr refl
-  meant (Set T2) = inr refl
-  meant (Set T3) = inr refl
-  meant (Reset T1) = inr refl
-  meant (Reset T2) = inr refl
-  meant (Reset T3) = inr refl
-  meant connection-up = inl refl
-  meant take-BSNT = inl refl
-  meant (end t) = inl refl
-
-  abbrev Meant : List Act → Type 0
-  Meant acts = every (oneOf all) (map coding (map said acts)) ≡ true
-
-  of-rank : (r : ℕ) → 1 ≤ r → (acts : List Act) → Meant (ranked r acts)
-  of-rank r h [] = refl
-  of-rank r h (a ∷ acts) = by (of-rank r h acts) (eqb (rank a) r) refl (meant a) where
-    by : Meant (ranked r acts) → (t : Bool) → eqb (rank a) r ≡ t → (rank a ≡ 0) ⊎ (oneOf all (said a .code) ≡ true) → Meant (cond t (a ∷ ranked r acts) (ranked r acts))
-    by m true e (inl z) = absurd (omega (arith, eqb-true (rank a) r e))
-    by m true e (inr q) = rw q m
-    by m false e c = m
-
-  joined : (xs ys : List Act) → Meant xs → Meant ys → Meant (xs ++ ys)
-  joined [] ys p q = q
-  joined (a ∷ xs) ys p q =
-      let m : oneOf all (said a .code) ≡ true = left (oneOf all (said a .code)) (every (oneOf all) (map coding (map said xs))) p in
-      rw m (joined xs ys (right (oneOf all (said a .code)) (every (oneOf all) (map coding (map said xs))) p) q)
-
-  all-meant : (acts : List Act) → Meant (signals acts)
-  all-meant acts =
-      let r : ℕ → List Act = λ i. ranked i acts in
-      joined (r 1 ++ r 2 ++ r 3 ++ r 4 ++ r 5 ++ r 6) (r 7)
-      (joined (r 1 ++ r 2 ++ r 3 ++ r 4 ++ r 5) (r 6)
-      (joined (r 1 ++ r 2 ++ r 3 ++ r 4) (r 5)
-      (joined (r 1 ++ r 2 ++ r 3) (r 4)
-      (joined (r 1 ++ r 2) (r 3) (joined (r 1) (r 2) (of-rank 1 (omega arith) acts) (of-rank 2 (omega arith) acts)) (of-rank 3 (omega arith) acts))
-      (of-rank 4 (omega arith) acts)) (of-rank 5 (omega arith) acts)) (of-rank 6 (omega arith) acts)) (of-rank 7 (omega arith) acts)
+all-listed : (p : ℕ) (n : Num) (mps : Mps) (ups : Ups) (b : Num) (told : List Told) → every (oneOf all) (map coding (map (signalOf p n mps ups b) told)) ≡ true
+all-listed p n mps ups b [] = refl
+all-listed p n mps ups b (a ∷ others) = rw (listed a) (all-listed p n mps ups b others)
 
 abbrev Coded? : Outcome → Type 0
 Coded? Illegal = Unit {0}
@@ -547,7 +505,7 @@ Coded? (Legal l ss) = every (oneOf all) (map coding ss) ≡ true
 
 of-choice : (l : Link) (m : Meeting) (c : Choice) → Coded? (outcome l m c)
 of-choice l m illegal = tt
-of-choice l m (does acts next) = all-meant (m .param) (m .number) (l .mps) (l .ups) (l .bsnt .num) acts
+of-choice l m (does acts next) = all-listed (m .param) (m .number) (l .mps) (l .ups) (l .bsnt .num) (signals acts)
 
 of-step : (l : Link) (x : Event) → Coded? (stepOf l x)
 unfolding stepOf
