@@ -1,4 +1,4 @@
--- What the code's views, changes and answers stand for. Nothing here has to be believed: the promises of the public functions tie it to specs/Step.antt.
+-- What the code's views, changes and words stand for. Nothing here has to be believed: the promises of the public functions tie it to specs/Step.antt.
 use Prim.Native.Nat.{ℕ, _-_}
 use mathlib.Core.Bool.{cond}
 use mathlib.Core.List.{List, map}
@@ -16,10 +16,9 @@ use Rattle.link.specs.declared.Event.the-variants as event
 use Rattle.link.specs.declared.View.{View}
 use Rattle.link.specs.declared.Signal.{Signal}
 use Rattle.link.specs.declared.Said.{Said}
-use Rattle.link.specs.declared.Answer.{Answer}
 use Rattle.link.specs.Effect.{taken}
 use Rattle.link.specs.Signal.{none, signalOf}
-use Rattle.link.specs.Step.{Meeting, named, Outcome, Illegal, Legal}
+use Rattle.link.specs.Step.{Meeting, named}
 
 -- VIEWS
 
@@ -100,11 +99,9 @@ summedUp s field n l =
 
 -- SIGNALS
 
+-- what a link says, at an event with this view, with the words of a cell
+abbrev pub saidOf : ℕ → View → Link → Said
+saidOf words v l = record { words = words; param = v .1; num = v .2; mps = l .mps; ups = l .ups; bsnt = l .bsnt .num }
+
 unfoldable pub signalsOf : Said → List Signal
 signalsOf o = map (signalOf (o .param) (o .num) (o .mps) (o .ups) (o .bsnt)) (said (o .words))
-
--- ANSWERS
-
-abbrev pub heard : Answer → Outcome
-heard Answer.Illegal = Illegal
-heard (Answer.Legal l o) = Legal l (signalsOf o)

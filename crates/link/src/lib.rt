@@ -17,9 +17,9 @@ ghost use Rattle.table6.specs.Summary.{over};
 ghost use Rattle.table6.specs.Stored.{flagOp, mpsOp, upsOp, stateOp, countOp, takesOp, changed};
 ghost use Rattle.link.specs.Effect.{with-state};
 ghost use Rattle.link.specs.Fresh.{freshLink};
-ghost use Rattle.link.specs.Lent.{leftBy, saidBy, replied};
+ghost use Rattle.link.specs.Lent.{Turned};
 ghost use Rattle.link.specs.Step.{named, stepOf};
-ghost use Rattle.link.specs.Stored.{dataRowOf, t3RowOf, viewOf, factsOf, counted, summedUp, signalsOf, heard};
+ghost use Rattle.link.specs.Stored.{dataRowOf, t3RowOf, viewOf, factsOf, counted, summedUp, saidOf, signalsOf};
 
 // A number of 24 bits, its highest octet first; or the three values of a REPORT.
 pub struct Num {
@@ -341,40 +341,25 @@ pub fn count(o: Said) -> u8
     (o.words % 8) as u8
 }
 
-pub enum Answer {
-    Illegal,
-    Legal(Link, Said),
-}
-
-// One event for one link.
-pub fn step(l: Link, e: Event) -> Answer
-    ensures { λ r. ⌜ heard r ≡ stepOf l e ⌝ }
+// What is said with the words of a cell.
+fn saying(words: u64, v: View, l: Link) -> Said
+    ensures { λ r. ⌜ r ≡ saidOf words v l ⌝ }
 {
-    let v = view_of(e, l.c1);
-    let f = facts_of(l, v);
-    let state = l.state;
-    match table6::cell(v.0, state, f) {
-        Met::Illegal => Answer::Illegal,
-        Met::Does(change, words) => {
-            let next = applied(change, v, l);
-            let num = v.2;
-            let mps = l.mps;
-            let ups = l.ups;
-            let bsnt = l.bsnt.num;
-            let said = Said {
-                words: words,
-                param: v.1,
-                num: num,
-                mps: mps,
-                ups: ups,
-                bsnt: bsnt,
-            };
-            Answer::Legal(next, said)
-        }
+    let num = v.2;
+    let mps = l.mps;
+    let ups = l.ups;
+    let bsnt = l.bsnt.num;
+    Said {
+        words: words,
+        param: v.1,
+        num: num,
+        mps: mps,
+        ups: ups,
+        bsnt: bsnt,
     }
 }
 
-// What is answered of a record that is lent: that the event is illegal, or what is said.
+// What is answered of an event: that it is illegal, or what is said.
 pub enum Reply {
     Illegal,
     Legal(Said),
@@ -386,37 +371,44 @@ pub struct Turn {
     pub reply: Reply,
 }
 
-// One event for one link, by value: an illegal event leaves the record as it was.
-pub fn turned(l: Link, e: Event) -> Turn
-    ensures { λ r. ⌜ (r .link ≡ leftBy l (stepOf l e)) × (replied (r .reply) ≡ saidBy (stepOf l e)) ⌝ }
+// One event for one link, by value. An illegal event leaves the record as it was.
+fn step(l: Link, e: Event) -> Turn
+    ensures { λ r. ⌜ Turned l (stepOf l e) (r .link) (r .reply) ⌝ }
 {
-    match step(l, e) {
-        Answer::Illegal => Turn {
+    let v = view_of(e, l.c1);
+    let f = facts_of(l, v);
+    let state = l.state;
+    match table6::cell(v.0, state, f) {
+        Met::Illegal => Turn {
             link: l,
             reply: Reply::Illegal,
         },
-        Answer::Legal(link, said) => Turn {
-            link: link,
-            reply: Reply::Legal(said),
-        },
+        Met::Does(change, words) => {
+            let next = applied(change, v, l);
+            let said = saying(words, v, l);
+            Turn {
+                link: next,
+                reply: Reply::Legal(said),
+            }
+        }
     }
 }
 
-// One event for one link whose record is lent, and altered there.
-pub fn step_in(l: &mut Link, e: Event) -> Reply
-    ensures { λ r. ⌜ (now (l .exit) ≡ leftBy (now (l .entry)) (stepOf (now (l .entry)) e)) × (replied r ≡ saidBy (stepOf (now (l .entry)) e)) ⌝ }
+// The same for a record that is lent, and altered there.
+fn step_lent(l: &mut Link, e: Event) -> Reply
+    ensures { λ r. ⌜ Turned (now (l .entry)) (stepOf (now (l .entry)) e) (now (l .exit)) r ⌝ }
 {
-    let t = turned(*l, e);
+    let t = step(*l, e);
     *l = t.link;
     t.reply
 }
 
-// The same with plain parameters, so that no caller walks.
-pub fn stepped(l: Link, e: Event) -> Turn
-    ensures { λ r. ⌜ (r .link ≡ leftBy l (stepOf l e)) × (replied (r .reply) ≡ saidBy (stepOf l e)) ⌝ }
+// The same with plain parameters: a copy is lent, so that no caller of this walks its code by hand.
+pub fn step_lending(l: Link, e: Event) -> Turn
+    ensures { λ r. ⌜ Turned l (stepOf l e) (r .link) (r .reply) ⌝ }
 {
     let mut k = l;
-    let reply = step_in(&mut k, e);
+    let reply = step_lent(&mut k, e);
     Turn {
         link: k,
         reply: reply,
