@@ -19,7 +19,7 @@ ghost use Rattle.link.specs.Effect.{with-state};
 ghost use Rattle.link.specs.Fresh.{freshLink};
 ghost use Rattle.link.specs.Lent.{Turned};
 ghost use Rattle.link.specs.Step.{named, stepOf};
-ghost use Rattle.link.specs.Stored.{dataRowOf, t3RowOf, viewOf, factsOf, counted, summedUp, saidOf, signalsOf};
+ghost use Rattle.link.specs.Stored.{dataRowOf, t3RowOf, viewOf, meetingOf, factsOf, counted, summedUp, saidOf, signalsOf};
 
 // A number of 24 bits, its highest octet first; or the three values of a REPORT.
 pub struct Num {
@@ -123,7 +123,8 @@ pub struct Signal {
 
 const ZERO: Num = Num { a: 0, b: 0, c: 0 };
 
-// An event as Table 6 meets it: the row, the parameter, the number, the source, the length of the message.
+// An event as Table 6 meets it: its row, and the parameter, the number, the source of a release and the length of a message that it brings.
+// Read by these names; a tuple, so that `view_of` has a line an event (D63).
 pub struct View(pub u8, pub u8, pub Num, pub u8, pub u16);
 
 fn data_row(a: Arrived) -> u8
@@ -206,13 +207,14 @@ fn em_or_nm(field: u8) -> bool
 fn facts_of(l: Link, v: View) -> Facts
     ensures { λ r. ⌜ r ≡ factsOf l v ⌝ }
 {
+    let View(_, param, _, source, len) = v;
     Facts {
         lpo: l.lpo,
         ins: l.ins,
-        uu: em_or_nm(v.1),
-        user: v.3 == 0,
+        uu: em_or_nm(param),
+        user: source == 0,
         bsnt: l.bsnt.known,
-        long: 4 < v.4,
+        long: 4 < len,
     }
 }
 
@@ -296,8 +298,9 @@ fn c1_after(x: u8, l: Link, field: u8) -> u16
 
 // The record after what a cell does to it.
 fn applied(c: Change, v: View, l: Link) -> Link
-    ensures { λ r. ⌜ r ≡ with-state (over (stateOp (c .0)) (l .state)) (summedUp (changed c) (v .1) (v .2) l) ⌝ }
+    ensures { λ r. ⌜ r ≡ with-state (over (stateOp (c .0)) (l .state)) (summedUp (changed c) (meetingOf v .param) (meetingOf v .number) l) ⌝ }
 {
+    let View(_, param, num, _, _) = v;
     let state = l.state;
     let mps = l.mps;
     let ups = l.ups;
@@ -313,12 +316,12 @@ fn applied(c: Change, v: View, l: Link) -> Link
         bsnt: Bsnt {
             known: known_after(c.9, l.bsnt.known),
             num: Num {
-                a: octet_after(c.9, v.2.a, l.bsnt.num.a),
-                b: octet_after(c.9, v.2.b, l.bsnt.num.b),
-                c: octet_after(c.9, v.2.c, l.bsnt.num.c),
+                a: octet_after(c.9, num.a, l.bsnt.num.a),
+                b: octet_after(c.9, num.b, l.bsnt.num.b),
+                c: octet_after(c.9, num.c, l.bsnt.num.c),
             },
         },
-        c1: c1_after(c.8, l, v.1),
+        c1: c1_after(c.8, l, param),
         n1: l.n1,
     }
 }
@@ -345,13 +348,13 @@ pub fn count(o: Said) -> u8
 fn saying(words: u64, v: View, l: Link) -> Said
     ensures { λ r. ⌜ r ≡ saidOf words v l ⌝ }
 {
-    let num = v.2;
+    let View(_, param, num, _, _) = v;
     let mps = l.mps;
     let ups = l.ups;
     let bsnt = l.bsnt.num;
     Said {
         words: words,
-        param: v.1,
+        param: param,
         num: num,
         mps: mps,
         ups: ups,
@@ -377,8 +380,9 @@ fn step(l: Link, e: Event) -> Turn
 {
     let v = view_of(e, l.c1);
     let f = facts_of(l, v);
+    let View(row, _, _, _, _) = v;
     let state = l.state;
-    match table6::cell(v.0, state, f) {
+    match table6::cell(row, state, f) {
         Met::Illegal => Turn {
             link: l,
             reply: Reply::Illegal,

@@ -29,7 +29,7 @@ met-so l e v f {r} {k = k} {reply = reply} er ev ef em t =
 
 -- of a cell that is not Illegal
 says : (l : Link) (v : View) (c : Change) (w : ℕ) {k : Link} {s : Said} →
-    k ≡ with-state (over (stateOp (c .0)) (l .state)) (summedUp (changed c) (v .1) (v .2) l) → s ≡ saidOf w v l →
+    k ≡ with-state (over (stateOp (c .0)) (l .state)) (summedUp (changed c) (meetingOf v .param) (meetingOf v .number) l) → s ≡ saidOf w v l →
     Turned l (outcomeOf l (meetingOf v) (metAs (l .state) (Met.Does c w))) k (Reply.Legal s)
 unfolding signalsOf
 says l v c w p q = record { left = p; said = ap (λ (x : Said). accepted (signalsOf x)) q }
