@@ -1,23 +1,35 @@
--- What a step does to a record that is lent to it, and what it answers: an outcome of specs/Step.antt taken apart.
+-- What the three forms of the step promise: by value, on a record that is lent, and with a copy lent. An outcome of specs/Step.antt, taken apart into the
+-- record and the answer.
+use Prim.Native.Nat.{ℕ}
+use mathlib.Core.Path.{_≡_}
 use mathlib.Core.List.{List}
-use mathlib.Core.Option.{Option, none, some}
+use Rattle.unit.specs.Answered.{Answered, refused, accepted}
 use Rattle.link.specs.declared.Link.{Link}
 use Rattle.link.specs.declared.Signal.{Signal}
 use Rattle.link.specs.declared.Reply.{Reply}
 use Rattle.link.specs.Step.{Outcome, Illegal, Legal}
 use Rattle.link.specs.Stored.{signalsOf}
 
--- The record after it: an illegal event leaves the record as it was.
+-- Document 01's number of the refusal "the cell of Table 6 is Illegal".
+abbrev pub illegalCell : ℕ
+illegalCell = 8
+
+-- The record after an event: an illegal one leaves it as it was.
 abbrev pub leftBy : Link → Outcome → Link
 leftBy l Illegal = l
 leftBy l (Legal next signals) = next
 
--- What it says: nothing where the event is illegal, else the signals.
-abbrev pub saidBy : Outcome → Option (List Signal)
-saidBy Illegal = none
-saidBy (Legal next signals) = some signals
+-- What is answered of it: refused, or accepted with the signals.
+abbrev pub saidBy : Outcome → Answered (List Signal)
+saidBy Illegal = refused illegalCell
+saidBy (Legal next signals) = accepted signals
 
--- What a reply stands for.
-abbrev pub replied : Reply → Option (List Signal)
-replied Reply.Illegal = none
-replied (Reply.Legal said) = some (signalsOf said)
+-- What a reply of the code stands for.
+abbrev pub replied : Reply → Answered (List Signal)
+replied Reply.Illegal = refused illegalCell
+replied (Reply.Legal said) = accepted (signalsOf said)
+
+-- The promise: a link that an event turns by this outcome has this record after it, and this is replied.
+pub record Turned (l : Link) (o : Outcome) (after : Link) (reply : Reply) : Type 0 where
+  pub left : after ≡ leftBy l o
+  pub said : replied reply ≡ saidBy o

@@ -1,8 +1,8 @@
--- What the code's views, changes and answers stand for. Nothing here has to be believed: the promises of the public functions tie it to specs/Step.antt.
+-- What the code's views, changes and words stand for. Nothing here has to be believed: the promises of the public functions tie it to specs/Step.antt.
 use Prim.Native.Nat.{ℕ, _-_}
 use mathlib.Core.Bool.{cond}
 use mathlib.Core.List.{List, map}
-use lib.Dec.{eqb, ltb}
+use lib.Dec.{eqb}
 use Rattle.unit.specs.declared.Arrived.{Arrived}
 use Rattle.table6.specs.declared.Facts.{Facts}
 use Rattle.table6.specs.Summary.{over, Count, same, decided, less, Summary}
@@ -16,12 +16,21 @@ use Rattle.link.specs.declared.Event.the-variants as event
 use Rattle.link.specs.declared.View.{View}
 use Rattle.link.specs.declared.Signal.{Signal}
 use Rattle.link.specs.declared.Said.{Said}
-use Rattle.link.specs.declared.Answer.{Answer}
 use Rattle.link.specs.Effect.{taken, generated}
 use Rattle.link.specs.Signal.{none, signalOf}
-use Rattle.link.specs.Step.{Meeting, named, Outcome, Illegal, Legal}
+use Rattle.link.specs.Step.{Meeting, facts}
 
 -- VIEWS
+
+-- The row, the parameter, the number, the source, the length: of an event that brings nothing, a parameter, a number.
+abbrev pub bareView : ℕ → View
+bareView row = (row, 0, none, 0, 0)
+
+abbrev pub withParam : ℕ → ℕ → View
+withParam row param = (row, param, none, 0, 0)
+
+abbrev pub withNumber : ℕ → Num → View
+withNumber row number = (row, 0, number, 0, 0)
 
 abbrev pub dataRowOf : Arrived → ℕ
 dataRowOf Arrived.INS = 13
@@ -34,45 +43,44 @@ abbrev pub t3RowOf : ℕ → ℕ
 t3RowOf c1 = cond (eqb c1 0) 34 33
 
 abbrev pub viewOf : Event → ℕ → View
-viewOf event.Message c1 = (0, 0, none, 0, 0)
-viewOf event.Emergency c1 = (1, 0, none, 0, 0)
-viewOf event.EmergencyCeases c1 = (2, 0, none, 0, 0)
-viewOf event.Stop c1 = (3, 0, none, 0, 0)
-viewOf event.Start c1 = (4, 0, none, 0, 0)
-viewOf event.RetrieveBsnt c1 = (5, 0, none, 0, 0)
-viewOf (event.Retrieval n) c1 = (6, 0, n, 0, 0)
-viewOf event.FlushBuffers c1 = (7, 0, none, 0, 0)
-viewOf event.Continue c1 = (8, 0, none, 0, 0)
-viewOf (event.EstablishIndication p) c1 = (9, p, none, 0, 0)
-viewOf (event.EstablishConfirm p) c1 = (10, p, none, 0, 0)
+viewOf event.Message c1 = bareView 0
+viewOf event.Emergency c1 = bareView 1
+viewOf event.EmergencyCeases c1 = bareView 2
+viewOf event.Stop c1 = bareView 3
+viewOf event.Start c1 = bareView 4
+viewOf event.RetrieveBsnt c1 = bareView 5
+viewOf (event.Retrieval n) c1 = withNumber 6 n
+viewOf event.FlushBuffers c1 = bareView 7
+viewOf event.Continue c1 = bareView 8
+viewOf (event.EstablishIndication p) c1 = withParam 9 p
+viewOf (event.EstablishConfirm p) c1 = withParam 10 p
 viewOf (event.ReleaseIndication f s) c1 = (11, f, none, s, 0)
-viewOf event.ReleaseConfirm c1 = (12, 0, none, 0, 0)
-viewOf (event.Data a n) c1 = (dataRowOf a, 0, n, 0, 0)
-viewOf event.Resync c1 = (17, 0, none, 0, 0)
-viewOf event.Recover c1 = (18, 0, none, 0, 0)
-viewOf event.UnitData c1 = (19, 0, none, 0, 0)
+viewOf event.ReleaseConfirm c1 = bareView 12
+viewOf (event.Data a n) c1 = withNumber (dataRowOf a) n
+viewOf event.Resync c1 = bareView 17
+viewOf event.Recover c1 = bareView 18
+viewOf event.UnitData c1 = bareView 19
 viewOf (event.Retrieve k) c1 = (20, 0, none, 0, k)
-viewOf event.RetrieveComplete c1 = (21, 0, none, 0, 0)
-viewOf event.ProvingUnsuccessful c1 = (22, 0, none, 0, 0)
-viewOf event.Release c1 = (23, 0, none, 0, 0)
-viewOf event.Outage c1 = (24, 0, none, 0, 0)
-viewOf event.Recovered c1 = (25, 0, none, 0, 0)
-viewOf event.ForceProving c1 = (26, 0, none, 0, 0)
-viewOf event.ForceEmergency c1 = (27, 0, none, 0, 0)
-viewOf event.ClearForceModes c1 = (28, 0, none, 0, 0)
-viewOf (event.Congestion p) c1 = (29, p, none, 0, 0)
-viewOf event.CongestionCeased c1 = (30, 0, none, 0, 0)
-viewOf event.T1 c1 = (31, 0, none, 0, 0)
-viewOf event.T2 c1 = (32, 0, none, 0, 0)
-viewOf event.T3 c1 = (t3RowOf c1, 0, none, 0, 0)
+viewOf event.RetrieveComplete c1 = bareView 21
+viewOf event.ProvingUnsuccessful c1 = bareView 22
+viewOf event.Release c1 = bareView 23
+viewOf event.Outage c1 = bareView 24
+viewOf event.Recovered c1 = bareView 25
+viewOf event.ForceProving c1 = bareView 26
+viewOf event.ForceEmergency c1 = bareView 27
+viewOf event.ClearForceModes c1 = bareView 28
+viewOf (event.Congestion p) c1 = withParam 29 p
+viewOf event.CongestionCeased c1 = bareView 30
+viewOf event.T1 c1 = bareView 31
+viewOf event.T2 c1 = bareView 32
+viewOf event.T3 c1 = bareView (t3RowOf c1)
 
--- the meeting that a view shows
+-- the meeting that a view shows: its names for the five
 abbrev pub meetingOf : View → Meeting
 meetingOf v = record { heading = heading (v .0); param = v .1; number = v .2; source = v .3; len = v .4 }
 
 abbrev pub factsOf : Link → View → Facts
-factsOf l v =
-    record { lpo = l .lpo; ins = l .ins; uu = named (v .1); user = eqb (v .3) 0; bsnt = l .bsnt .known; long = ltb 4 (v .4) }
+factsOf l v = facts l (meetingOf v)
 
 -- CHANGES
 
@@ -100,15 +108,13 @@ summedUp s field n l =
 
 -- SIGNALS
 
+-- what a link says, at an event with this view, with the words of a cell
+abbrev pub saidOf : ℕ → View → Link → Said
+saidOf words v l = record { words = words; param = meetingOf v .param; num = meetingOf v .number; mps = l .mps; ups = l .ups; bsnt = l .bsnt .num }
+
 -- what is told, with what the step says beside its words
 abbrev pub meantBy : Said → Told → Signal
 meantBy o a = signalOf (o .param) (o .num) (o .mps) (o .ups) (o .bsnt) a
 
 unfoldable pub signalsOf : Said → List Signal
 signalsOf o = map (meantBy o) (said (o .words))
-
--- ANSWERS
-
-abbrev pub heard : Answer → Outcome
-heard Answer.Illegal = Illegal
-heard (Answer.Legal l o) = Legal l (signalsOf o)

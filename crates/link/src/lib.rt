@@ -17,9 +17,9 @@ ghost use Rattle.table6.specs.Summary.{over};
 ghost use Rattle.table6.specs.Stored.{flagOp, mpsOp, upsOp, stateOp, countOp, takesOp, changed};
 ghost use Rattle.link.specs.Effect.{with-state};
 ghost use Rattle.link.specs.Fresh.{freshLink};
-ghost use Rattle.link.specs.Lent.{leftBy, saidBy, replied};
+ghost use Rattle.link.specs.Lent.{Turned};
 ghost use Rattle.link.specs.Step.{named, stepOf};
-ghost use Rattle.link.specs.Stored.{dataRowOf, t3RowOf, viewOf, factsOf, counted, summedUp, signalsOf, heard};
+ghost use Rattle.link.specs.Stored.{dataRowOf, t3RowOf, viewOf, meetingOf, factsOf, counted, summedUp, saidOf, signalsOf};
 
 // A number of 24 bits, its highest octet first; or the three values of a REPORT.
 pub struct Num {
@@ -123,7 +123,8 @@ pub struct Signal {
 
 const ZERO: Num = Num { a: 0, b: 0, c: 0 };
 
-// An event as Table 6 meets it: the row, the parameter, the number, the source, the length of the message.
+// An event as Table 6 meets it: its row, and the parameter, the number, the source of a release and the length of a message that it brings.
+// Read by these names; a tuple, so that `view_of` has a line an event (D63).
 pub struct View(pub u8, pub u8, pub Num, pub u8, pub u16);
 
 fn data_row(a: Arrived) -> u8
@@ -206,13 +207,14 @@ fn em_or_nm(field: u8) -> bool
 fn facts_of(l: Link, v: View) -> Facts
     ensures { λ r. ⌜ r ≡ factsOf l v ⌝ }
 {
+    let View(_, param, _, source, len) = v;
     Facts {
         lpo: l.lpo,
         ins: l.ins,
-        uu: em_or_nm(v.1),
-        user: v.3 == 0,
+        uu: em_or_nm(param),
+        user: source == 0,
         bsnt: l.bsnt.known,
-        long: 4 < v.4,
+        long: 4 < len,
     }
 }
 
@@ -296,8 +298,9 @@ fn c1_after(x: u8, l: Link, field: u8) -> u16
 
 // The record after what a cell does to it.
 fn applied(c: Change, v: View, l: Link) -> Link
-    ensures { λ r. ⌜ r ≡ with-state (over (stateOp (c .0)) (l .state)) (summedUp (changed c) (v .1) (v .2) l) ⌝ }
+    ensures { λ r. ⌜ r ≡ with-state (over (stateOp (c .0)) (l .state)) (summedUp (changed c) (meetingOf v .param) (meetingOf v .number) l) ⌝ }
 {
+    let View(_, param, num, _, _) = v;
     let Change(to, ins, lpo, mps, ups, t1, t2, t3, c1, bsnt) = c;
     let old_state = l.state;
     let old_mps = l.mps;
@@ -314,12 +317,12 @@ fn applied(c: Change, v: View, l: Link) -> Link
         bsnt: Bsnt {
             known: known_after(bsnt, l.bsnt.known),
             num: Num {
-                a: octet_after(bsnt, v.2.a, l.bsnt.num.a),
-                b: octet_after(bsnt, v.2.b, l.bsnt.num.b),
-                c: octet_after(bsnt, v.2.c, l.bsnt.num.c),
+                a: octet_after(bsnt, num.a, l.bsnt.num.a),
+                b: octet_after(bsnt, num.b, l.bsnt.num.b),
+                c: octet_after(bsnt, num.c, l.bsnt.num.c),
             },
         },
-        c1: c1_after(c1, l, v.1),
+        c1: c1_after(c1, l, param),
         n1: l.n1,
     }
 }
@@ -342,40 +345,25 @@ pub fn count(o: Said) -> u8
     (o.words % 8) as u8
 }
 
-pub enum Answer {
-    Illegal,
-    Legal(Link, Said),
-}
-
-// One event for one link.
-pub fn step(l: Link, e: Event) -> Answer
-    ensures { λ r. ⌜ heard r ≡ stepOf l e ⌝ }
+// What is said with the words of a cell.
+fn saying(words: u64, v: View, l: Link) -> Said
+    ensures { λ r. ⌜ r ≡ saidOf words v l ⌝ }
 {
-    let v = view_of(e, l.c1);
-    let f = facts_of(l, v);
-    let state = l.state;
-    match table6::cell(v.0, state, f) {
-        Met::Illegal => Answer::Illegal,
-        Met::Does(change, words) => {
-            let next = applied(change, v, l);
-            let num = v.2;
-            let mps = l.mps;
-            let ups = l.ups;
-            let bsnt = l.bsnt.num;
-            let said = Said {
-                words: words,
-                param: v.1,
-                num: num,
-                mps: mps,
-                ups: ups,
-                bsnt: bsnt,
-            };
-            Answer::Legal(next, said)
-        }
+    let View(_, param, num, _, _) = v;
+    let mps = l.mps;
+    let ups = l.ups;
+    let bsnt = l.bsnt.num;
+    Said {
+        words: words,
+        param: param,
+        num: num,
+        mps: mps,
+        ups: ups,
+        bsnt: bsnt,
     }
 }
 
-// What is answered of a record that is lent: that the event is illegal, or what is said.
+// What is answered of an event: that it is illegal, or what is said.
 pub enum Reply {
     Illegal,
     Legal(Said),
@@ -387,37 +375,45 @@ pub struct Turn {
     pub reply: Reply,
 }
 
-// One event for one link, by value: an illegal event leaves the record as it was.
-pub fn turned(l: Link, e: Event) -> Turn
-    ensures { λ r. ⌜ (r .link ≡ leftBy l (stepOf l e)) × (replied (r .reply) ≡ saidBy (stepOf l e)) ⌝ }
+// One event for one link, by value. An illegal event leaves the record as it was.
+fn step(l: Link, e: Event) -> Turn
+    ensures { λ r. ⌜ Turned l (stepOf l e) (r .link) (r .reply) ⌝ }
 {
-    match step(l, e) {
-        Answer::Illegal => Turn {
+    let v = view_of(e, l.c1);
+    let f = facts_of(l, v);
+    let View(row, _, _, _, _) = v;
+    let state = l.state;
+    match table6::cell(row, state, f) {
+        Met::Illegal => Turn {
             link: l,
             reply: Reply::Illegal,
         },
-        Answer::Legal(link, said) => Turn {
-            link: link,
-            reply: Reply::Legal(said),
-        },
+        Met::Does(change, words) => {
+            let next = applied(change, v, l);
+            let said = saying(words, v, l);
+            Turn {
+                link: next,
+                reply: Reply::Legal(said),
+            }
+        }
     }
 }
 
-// One event for one link whose record is lent, and altered there.
-pub fn step_in(l: &mut Link, e: Event) -> Reply
-    ensures { λ r. ⌜ (now (l .exit) ≡ leftBy (now (l .entry)) (stepOf (now (l .entry)) e)) × (replied r ≡ saidBy (stepOf (now (l .entry)) e)) ⌝ }
+// The same for a record that is lent, and altered there.
+fn step_lent(l: &mut Link, e: Event) -> Reply
+    ensures { λ r. ⌜ Turned (now (l .entry)) (stepOf (now (l .entry)) e) (now (l .exit)) r ⌝ }
 {
-    let t = turned(*l, e);
+    let t = step(*l, e);
     *l = t.link;
     t.reply
 }
 
-// The same with plain parameters, so that no caller walks.
-pub fn stepped(l: Link, e: Event) -> Turn
-    ensures { λ r. ⌜ (r .link ≡ leftBy l (stepOf l e)) × (replied (r .reply) ≡ saidBy (stepOf l e)) ⌝ }
+// The same with plain parameters: a copy is lent, so that no caller of this walks its code by hand.
+pub fn step_lending(l: Link, e: Event) -> Turn
+    ensures { λ r. ⌜ Turned l (stepOf l e) (r .link) (r .reply) ⌝ }
 {
     let mut k = l;
-    let reply = step_in(&mut k, e);
+    let reply = step_lent(&mut k, e);
     Turn {
         link: k,
         reply: reply,

@@ -203,7 +203,7 @@ fn say5(a: u8, b: u8, c: u8, d: u8, e: u8) -> u64
 }
 
 // What a code does to the link, and its signals, where the cell asks a condition by what the facts say. One match for all, so that a step branches once.
-pub fn does(code: u8, f: Facts) -> Met
+pub(crate) fn does(code: u8, f: Facts) -> Met
     ensures { λ r. ⌜ r ≡ follow f (askAt code) ⌝ }
 {
     match code {

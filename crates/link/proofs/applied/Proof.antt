@@ -73,7 +73,7 @@ held false n o p q r t = λ i. bsnt (p i) (q i) (r i) (t i)
 
 returns : tie.Need-returns
 returns c =
-    let a = c .before .before .before .before .before .before .before .before .before .before .before .before .before .args in
+    let a = c .before .before .before .before .before .before .before .before .before .before .before .before .before .before .args in
     each (a .l .n1) (c .before .before .before .before .before .before .before .before .before .before .before .before .state-after .ensures) (c .before .before .before .before .before .before .before .before .before .before .before .flag-after .ensures) (c .before .before .before .before .before .before .before .before .before .before .flag-after2 .ensures) (c .before .before .before .before .before .before .before .before .before .mps-after .ensures) (c .before .before .before .before .before .before .before .before .ups-after .ensures)
     (c .before .before .before .before .before .before .before .flag-after3 .ensures) (c .before .before .before .before .before .before .flag-after4 .ensures) (c .before .before .before .before .before .flag-after5 .ensures)
     (held (takesOp (a .c .9)) (a .v .2) (a .l .bsnt) (c .before .before .before .before .known-after .ensures) (c .before .before .before .octet-after .ensures) (c .before .before .octet-after2 .ensures) (c .before .octet-after3 .ensures))

@@ -3,8 +3,7 @@ use borrow.Author.Needs.{needs}
 use mathlib.Core.Path.{_≡_, sym, ap, _∙_}
 use Prim.Native.Nat.{ℕ}
 use Rattle.link.specs.declared.Event.{Event}
-use Rattle.link.specs.Signal.{none}
-use Rattle.link.specs.Stored.{viewOf}
+use Rattle.link.specs.Stored.{bareView, withNumber, viewOf}
 use Rattle.link.proofs.view_of.Statement.{statement}
 use Rattle.link.proofs.view_of.Tie as tie
 
@@ -151,7 +150,7 @@ returns-13 : tie.Need-returns-13
 returns-13 c = seen _ (c .enum-told9 .given .1)
 
 returns-14 : tie.Need-returns-14
-returns-14 c = ap (λ (k : ℕ). (k, 0, c .before .before .e5 .given .0 .1 .0, 0, 0)) (c .data-row .ensures) ∙ seen _ (c .before .before .e5 .given .1)
+returns-14 c = ap (λ (k : ℕ). withNumber k (c .before .before .e5 .given .0 .1 .0)) (c .data-row .ensures) ∙ seen _ (c .before .before .e5 .given .1)
 
 returns-15 : tie.Need-returns-15
 returns-15 c = seen _ (c .enum-told10 .given .1)
@@ -202,7 +201,7 @@ returns-30 : tie.Need-returns-30
 returns-30 c = seen _ (c .enum-told23 .given .1)
 
 returns-31 : tie.Need-returns-31
-returns-31 c = ap (λ (k : ℕ). (k, 0, none, 0, 0)) (c .t3-row .ensures) ∙ seen _ (c .before .enum-told24 .given .1)
+returns-31 c = ap bareView (c .t3-row .ensures) ∙ seen _ (c .before .enum-told24 .given .1)
 
 pub view-of-spec : {M : Type 1} → statement M
 view-of-spec =

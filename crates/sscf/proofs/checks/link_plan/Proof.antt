@@ -11,7 +11,7 @@ use Rattle.link.specs.Step as machine
 use Rattle.link.specs.declared.Link.{Link}
 use Rattle.link.specs.declared.Event.{Event}
 use Rattle.link.specs.Stored.{signalsOf}
-use Rattle.link.specs.Lent.{leftBy, saidBy, replied}
+use Rattle.link.specs.Lent.{Turned}
 use Rattle.link.proofs.Lent.{was-illegal, was-legal}
 use Rattle.record.specs.declared.Slot.{Slot}
 use Rattle.record.specs.LinkRecord.{recordOctets, wellFormed, slotOf, found}
@@ -60,23 +60,21 @@ running : (c : tie.Else2) → idle (c .before .before .before .before .l .given 
 running c = sym (c .before .idle .ensures) ∙ c .if2 .left
 
 -- what the step left and said, of the record and the event that the octets hold
-abbrev L : tie.After-stepped → Link
+abbrev L : tie.After-step-lending → Link
 L c = c .before .before .before .before .before .before .l .given .0 .0
 
-abbrev Out : tie.After-stepped → machine.Outcome
+abbrev Out : tie.After-step-lending → machine.Outcome
 Out c = machine.stepOf (L c) (eventOf (c .before .before .before .before .before .before .before .before .before .before .before .before .before .args .e .now))
 
-abbrev Turned : tie.After-stepped → machine.Outcome → Type 0
-Turned c o = (c .stepped .result .link ≡ leftBy (L c) o) × (replied (c .stepped .result .reply) ≡ saidBy o)
-
-turned : (c : tie.After-stepped) → Turned c (Out c)
-turned c = subst (λ (x : Event). Turned c (machine.stepOf (L c) x)) (c .before .event .ensures) (c .stepped .ensures)
+turned : (c : tie.After-step-lending) → Turned (L c) (Out c) (c .step-lending .result .link) (c .step-lending .result .reply)
+turned c =
+    subst (λ (x : Event). Turned (L c) (machine.stepOf (L c) x) (c .step-lending .result .link) (c .step-lending .result .reply)) (c .before .event .ensures) (c .step-lending .ensures)
 
 illegal : (c : tie.After-enum-told2) → Out (c .before .before .before) ≡ machine.Illegal
-illegal c = was-illegal (Out (c .before .before .before)) (c .enum-told2 .given .1) (turned (c .before .before .before) .1)
+illegal c = was-illegal (Out (c .before .before .before)) (c .enum-told2 .given .1) (turned (c .before .before .before))
 
-legal : (c : tie.After-reply) → Out (c .before .before .before) ≡ machine.Legal (c .before .before .before .stepped .result .link) (signalsOf (c .reply .given .0 .0))
-legal c = was-legal (L (c .before .before .before)) (Out (c .before .before .before)) (c .reply .given .1) (turned (c .before .before .before) .0) (turned (c .before .before .before) .1)
+legal : (c : tie.After-reply) → Out (c .before .before .before) ≡ machine.Legal (c .before .before .before .step-lending .result .link) (signalsOf (c .reply .given .0 .0))
+legal c = was-legal (Out (c .before .before .before)) (c .reply .given .1) (turned (c .before .before .before))
 
 link-requires : tie.Need-link-requires
 link-requires c κs = search needs
@@ -113,8 +111,8 @@ returns-2 c =
 event-requires : tie.Need-event-requires
 event-requires c κs = search needs
 
-stepped-requires : tie.Need-stepped-requires
-stepped-requires c κs = search needs
+step-lending-requires : tie.Need-step-lending-requires
+step-lending-requires c κs = search needs
 
 enum-told-2 : tie.Need-enum-told-2
 enum-told-2 c = search needs
@@ -155,7 +153,7 @@ link-plan-spec =
     idle-requires
     returns-2
     event-requires
-    stepped-requires
+    step-lending-requires
     enum-told-2
     enum-known-reply
     returns-3

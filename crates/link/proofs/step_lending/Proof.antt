@@ -1,6 +1,6 @@
--- `link::stepped` meets its contract: a walk of its MIR, by hand. The record is copied to a local, which is lent to `step_in` for a lifetime that is
+-- `link::step_lending` meets its contract: a walk of its MIR, by hand. The record is copied to a local, which is lent to `step_lent` for a lifetime that is
 -- made for the call; the lifetime is ended, the local comes back at its last value, and the turn is put together of it and the reply.
--- All that is known of `step_in` is that it meets its contract. Machine values stay names, each with its type's relation in hand.
+-- All that is known of `step_lent` is that it meets its contract. Machine values stay names, each with its type's relation in hand.
 -- Assumes nothing.
 use mathlib.Core.Path.{_≡_, refl}
 use Prim.Native.Nat.{ℕ}
@@ -41,7 +41,7 @@ use denote.Triple.Walked.{says, Stays, stay-none, walkOf, AllGo, goes-none, Walk
 use denote.Exit.{yes}
 use denote.Triple.Clauses.{ensured, lasts}
 use Rattle.link.specs.Step.{stepOf}
-use Rattle.link.specs.Lent.{leftBy, saidBy, replied}
+use Rattle.link.specs.Lent.{Turned}
 use Rattle.link.specs.declared.Link.{Link}
 use Rattle.link.specs.declared.Event.{Event}
 use Rattle.link.specs.declared.Reply.{Reply}
@@ -54,24 +54,24 @@ use Rattle.link.proofs.Reply as R
 use Rattle.link.proofs.Reply.Laws as R′
 use Rattle.link.proofs.Turn as T
 use Rattle.link.proofs.Turn.Laws as T′
-use Rattle.link.proofs.step_in as step-in
-use Rattle.link.proofs.step_in.Symbol as step-in-def
-use Rattle.link.proofs.step_in.Symbol.{name as #link·step-in}
-use Rattle.link.proofs.step_in.Met as step-in-thm
-use Rattle.link.proofs.stepped.Key.{name as #link·stepped}
-use Rattle.link.proofs.stepped as stepped
-use Rattle.link.proofs.stepped.Statement as stated
-use Rattle.link.proofs.stepped.Code as code
+use Rattle.link.proofs.step_lent as step-lent
+use Rattle.link.proofs.step_lent.Symbol as step-lent-def
+use Rattle.link.proofs.step_lent.Symbol.{name as #link·step-lent}
+use Rattle.link.proofs.step_lent.Met as step-lent-thm
+use Rattle.link.proofs.step_lending.Key.{name as #link·step-lending}
+use Rattle.link.proofs.step_lending as step-lending
+use Rattle.link.proofs.step_lending.Statement as stated
+use Rattle.link.proofs.step_lending.Code as code
 
 abbrev Arg : Type 0
 Arg = Link × (Event × Unit {0})
 
-abbrev stayed : Stays (stepped.ended .signature .params) (stepped.ended .kept)
+abbrev stayed : Stays (step-lending.ended .signature .params) (step-lending.ended .kept)
 stayed = (stay-none (λ _. L.the-row) yes, (stay-none (λ _. E.the-row) yes, tt))
 
 -- what both contracts say of the record at exit and the reply
 abbrev Fits : Link → Event → Link → Reply → Type 0
-Fits l e k s = (k ≡ leftBy l (stepOf l e)) × (replied s ≡ saidBy (stepOf l e))
+Fits l e k s = Turned l (stepOf l e) k s
 
 abbrev turn : Link → Reply → Turn
 turn k s = record { link = k; reply = s }
@@ -119,8 +119,8 @@ module _ {M : Type 1} (𝓤 : URA M) (H : Heap 𝓤) (A : Atoms 𝓤) (W : Given
       use3 W (later (‵ (mem L.the-row .lies k b 0))) (ref-back 𝓤 H A W L.the-row (ν ∷ []) γ k b 0) $ await ! tt $ at-once ! $ by ! (lies-out k)
 
 -- the contract that the proof cites
-abbrev StepIn : {M : Type 1} (𝓤 : URA M) (H : Heap 𝓤) (A : Atoms 𝓤) (at-mem : Memory → SProp 𝓤) (run : Routine → Fun 𝓤) → Contract 𝓤
-StepIn 𝓤 H A at-mem run = tripleOf 𝓤 H A step-in.signature (step-in.spec 𝓤 H A at-mem run)
+abbrev StepLent : {M : Type 1} (𝓤 : URA M) (H : Heap 𝓤) (A : Atoms 𝓤) (at-mem : Memory → SProp 𝓤) (run : Routine → Fun 𝓤) → Contract 𝓤
+StepLent 𝓤 H A at-mem run = tripleOf 𝓤 H A step-lent.signature (step-lent.spec 𝓤 H A at-mem run)
 
 module _ {M : Type 1} (𝓤 : URA M) (H : Heap 𝓤) (A : Atoms 𝓤) (W : Given 𝓤 H A) (at-mem : Memory → SProp 𝓤) (run : Routine → Fun 𝓤) (l : Link) (e : Event) (at-l at-e : Val) (l-is : Is L.the-row l (at-l ∷ [])) (e-is : Is E.the-row e (at-e ∷ [])) where
   abbrev x : Arg
@@ -130,26 +130,26 @@ module _ {M : Type 1} (𝓤 : URA M) (H : Heap 𝓤) (A : Atoms 𝓤) (W : Given
   at = (at-l ∷ [], (at-e ∷ [], tt))
 
   abbrev Post : Val → SProp 𝓤
-  Post = walkOf 𝓤 H A stepped.ended stayed (stepped.clauses 𝓤 H A at-mem run) .post ((tt, tt, tt, x, at), tt)
+  Post = walkOf 𝓤 H A step-lending.ended stayed (step-lending.clauses 𝓤 H A at-mem run) .post ((tt, tt, tt, x, at), tt)
 
   exits : (k : Link) (s : Reply) (v : Val) → Is T.the-row (turn k s) (v ∷ []) → Fits l e k s → ent 𝓤 (emp 𝓤) (Post v)
   exits k s v is fits =
-      qed W [] ∵ suffices ! _ (ends-at 𝓤 H A stepped.ended stayed (stepped.clauses 𝓤 H A at-mem run) W ((tt, tt, tt, x, at), tt) v (turn k s) (tt, (tt, tt)) (tt, (tt, tt))) $ says ! fits $
+      qed W [] ∵ suffices ! _ (ends-at 𝓤 H A step-lending.ended stayed (step-lending.clauses 𝓤 H A at-mem run) W ((tt, tt, tt, x, at), tt) v (turn k s) (tt, (tt, tt)) (tt, (tt, tt))) $ says ! fits $
       owned ! T.the-row (Is T.the-row) (LL.makes T.the-type T′.the-plain 𝓤 H A) (turn k s) _ is $ nothing ! $ owned ! E.the-row (Is E.the-row) (EL.makes E.the-type E′.the-plain 𝓤 H A) e _ e-is $ fjoin ! $
       owned ! L.the-row (Is L.the-row) (LL.makes L.the-type L′.the-plain 𝓤 H A) l _ l-is $ fjoin ! $ nothing ! $ done !
 
-  -- what `step_in`'s triple binds outside, at the local in the block b, lent for ν under the name γ
-  abbrev to-step-in : ℕ → ℕ → GName → StepIn 𝓤 H A at-mem run .Ghost
-  to-step-in b ν γ = (((ν ∷ [], tt), (fullShare, tt), tt, (ref b γ l, (e, tt)), (vptr b 0 ∷ [], (at-e ∷ [], tt))), tt)
+  -- what `step_lent`'s triple binds outside, at the local in the block b, lent for ν under the name γ
+  abbrev to-step-lent : ℕ → ℕ → GName → StepLent 𝓤 H A at-mem run .Ghost
+  to-step-lent b ν γ = (((ν ∷ [], tt), (fullShare, tt), tt, (ref b γ l, (e, tt)), (vptr b 0 ∷ [], (at-e ∷ [], tt))), tt)
 
-  goes-step-in : (b ν : ℕ) (γ : GName) → ent 𝓤 (sep 𝓤 (A .lft (ν ∷ []) fullShare) (sem 𝓤 H A (MutRef (named 0) (ν ∷ []) L.the-row .own (ref b γ l) (vptr b 0 ∷ [])))) (StepIn 𝓤 H A at-mem run .pre (to-step-in b ν γ))
-  goes-step-in b ν γ =
+  goes-step-lent : (b ν : ℕ) (γ : GName) → ent 𝓤 (sep 𝓤 (A .lft (ν ∷ []) fullShare) (sem 𝓤 H A (MutRef (named 0) (ν ∷ []) L.the-row .own (ref b γ l) (vptr b 0 ∷ [])))) (StepLent 𝓤 H A at-mem run .pre (to-step-lent b ν γ))
+  goes-step-lent b ν γ =
       qed W (‵ (flft (ν ∷ []) fullShare) ∷ ‵ (MutRef (named 0) (ν ∷ []) L.the-row .own (ref b γ l) (vptr b 0 ∷ [])) ∷ []) ∵
       owned ! E.the-row (Is E.the-row) (EL.makes E.the-type E′.the-plain 𝓤 H A) e _ e-is $ nothing ! $ move ! (1 ∷ 0 ∷ []) $ join ! $ move ! (2 ∷ 0 ∷ []) $ join ! $
       nothing ! $ move ! (2 ∷ 0 ∷ []) $ join ! $ join ! $ frame ! $ done !
 
-  module _ (C : Calls 𝓤 H) (Λ : Loops 𝓤 H) (fm : FmC 𝓤 H (W .laws) C) (known : Triple 𝓤 (C #link·step-in) (StepIn 𝓤 H A at-mem run)) where
-    walk : ent 𝓤 (onEntry 𝓤 H A stepped.signature tt tt x at) (WpFn 𝓤 H C Λ code.function (at-l ∷ at-e ∷ []) Post)
+  module _ (C : Calls 𝓤 H) (Λ : Loops 𝓤 H) (fm : FmC 𝓤 H (W .laws) C) (known : Triple 𝓤 (C #link·step-lent) (StepLent 𝓤 H A at-mem run)) where
+    walk : ent 𝓤 (onEntry 𝓤 H A step-lending.signature tt tt x at) (WpFn 𝓤 H C Λ code.function (at-l ∷ at-e ∷ []) Post)
     walk =
         qed W (‵ ftrue ∷ ‵ (owns (L.the-row ∷ E.the-row ∷ []) x at) ∷ []) ∵ enter ! C Λ code.function (at-l ∷ at-e ∷ []) _ $
         alloc1 ! (λ l₀. alloc1 ! (λ l₁. alloc1 ! (λ l₂. alloc1 ! (λ l₃. alloc1 ! (λ l₄. alloc1 ! (λ l₅. alloc1 ! (λ l₆. alloc0 ! $ params1 ! $
@@ -161,11 +161,11 @@ module _ {M : Type 1} (𝓤 : URA M) (H : Heap 𝓤) (A : Atoms 𝓤) (W : Given
         move ! (6 ∷ []) $ lft-new ! tt (λ ν. move ! (1 ∷ []) $
         use1 W (later (some (λ (γ : GName). ‵ (MutRef (named 0) (ν ∷ []) L.the-row .own (ref l₃ γ l) (vptr l₃ 0 ∷ [])) ⊛ ‵ (flent (ν ∷ []) (Body (mem L.the-row) l₃ 0 γ))))) (lends 𝓤 H A W l₃ ν l at-l l-is) $ await ! tt $ pick ! (λ γ. split ! $
         -- [the reference; the lender's part; the token; 3: _6; 5: _5; 7: _4; 9: the end of _3; 10: _2; 12: _1; 14: _0]
-        move ! (2 ∷ 0 ∷ []) $ use2 W (raw (StepIn 𝓤 H A at-mem run .pre (to-step-in l₃ ν γ))) (goes-step-in l₃ ν γ) $
-        calls-at ! fm (StepIn 𝓤 H A at-mem run) known (to-step-in l₃ ν γ) (and-then ! (load ! (from ! (stop !)) (look ! 4 refl)) (and-then ! (load ! (from ! (stop !)) (look ! 9 refl)) (no-more !))) (λ w.
-        use1 W (later (some (λ (s : Reply). ((‵ (flft (ν ∷ []) fullShare) ⊛ ‵ ftrue) ⊛ ‵ (R.the-row .own s (w ∷ []))) ⊛ raw (ensured 𝓤 H A step-in.ended (step-in.clauses 𝓤 H A at-mem run) (ν ∷ [], tt) (ref l₃ γ l, (e, tt)) tt s)))) (id⊢ 𝓤 _) $ await ! tt $ pick ! (λ s.
-        -- what `step_in` ensures, at some last record
-        split ! $ move ! (1 ∷ []) $ use1 W (some (λ (ks : Link × (Unit {0} × Unit {0})). ‵ (lasts step-in.ended (ν ∷ [], tt) (ref l₃ γ l, (e, tt)) ks) ⊛ raw (fact 𝓤 (Fits l e (ks .0) s)))) (id⊢ 𝓤 _) $ pick ! (λ ks.
+        move ! (2 ∷ 0 ∷ []) $ use2 W (raw (StepLent 𝓤 H A at-mem run .pre (to-step-lent l₃ ν γ))) (goes-step-lent l₃ ν γ) $
+        calls-at ! fm (StepLent 𝓤 H A at-mem run) known (to-step-lent l₃ ν γ) (and-then ! (load ! (from ! (stop !)) (look ! 4 refl)) (and-then ! (load ! (from ! (stop !)) (look ! 9 refl)) (no-more !))) (λ w.
+        use1 W (later (some (λ (s : Reply). ((‵ (flft (ν ∷ []) fullShare) ⊛ ‵ ftrue) ⊛ ‵ (R.the-row .own s (w ∷ []))) ⊛ raw (ensured 𝓤 H A step-lent.ended (step-lent.clauses 𝓤 H A at-mem run) (ν ∷ [], tt) (ref l₃ γ l, (e, tt)) tt s)))) (id⊢ 𝓤 _) $ await ! tt $ pick ! (λ s.
+        -- what `step_lent` ensures, at some last record
+        split ! $ move ! (1 ∷ []) $ use1 W (some (λ (ks : Link × (Unit {0} × Unit {0})). ‵ (lasts step-lent.ended (ν ∷ [], tt) (ref l₃ γ l, (e, tt)) ks) ⊛ raw (fact 𝓤 (Fits l e (ks .0) s)))) (id⊢ 𝓤 _) $ pick ! (λ ks.
         split ! $ move ! (1 ∷ []) $ heard ! (Fits l e (ks .0) s) (λ fits. fsplit ! $ move ! (2 ∷ []) $ split ! $ move ! (1 ∷ []) $
         -- [what the reply owns; the token; the last value; true; the lender's part; 5: _6; 7: _5; 9: _4; 11: the end of _3; 12: _2; 14: _1; 16: _0]
         peeks ! R.the-row (Is R.the-row) (shows 𝓤 H A R.the-row) s (w ∷ []) (λ s-is.
@@ -183,21 +183,21 @@ module _ {M : Type 1} (𝓤 : URA M) (H : Heap 𝓤) (A : Atoms 𝓤) (W : Given
         keep ! [] $ by ! (exits (ks .0) s (at-turn u w) (together (ks .0) s u w k-is s-is) fits)))))))))))))))))
 
 module _ {M : Type 1} (𝓤 : URA M) (H : Heap 𝓤) (A : Atoms 𝓤) (W : Given 𝓤 H A) (at-mem : Memory → SProp 𝓤) (run : Routine → Fun 𝓤) where
-  stepped-walks : (C : Calls 𝓤 H) (Λ : Loops 𝓤 H) → FmC 𝓤 H (W .laws) C → Triple 𝓤 (C #link·step-in) (StepIn 𝓤 H A at-mem run) → Walks 𝓤 H A stepped.ended stayed (WpFn 𝓤 H C Λ code.function) (stepped.clauses 𝓤 H A at-mem run)
-  stepped-walks C Λ fm known = walked 𝓤 H A stepped.ended stayed (stepped.clauses 𝓤 H A at-mem run) (WpFn 𝓤 H C Λ code.function) (λ κs. (LL.vals L.the-type L′.the-laws, (EL.vals E.the-type E′.the-laws, tt))) (λ κs. (LL.tells L.the-type L′.the-laws, (EL.tells E.the-type E′.the-laws, tt)))
+  step-lending-walks : (C : Calls 𝓤 H) (Λ : Loops 𝓤 H) → FmC 𝓤 H (W .laws) C → Triple 𝓤 (C #link·step-lent) (StepLent 𝓤 H A at-mem run) → Walks 𝓤 H A step-lending.ended stayed (WpFn 𝓤 H C Λ code.function) (step-lending.clauses 𝓤 H A at-mem run)
+  step-lending-walks C Λ fm known = walked 𝓤 H A step-lending.ended stayed (step-lending.clauses 𝓤 H A at-mem run) (WpFn 𝓤 H C Λ code.function) (λ κs. (LL.vals L.the-type L′.the-laws, (EL.vals E.the-type E′.the-laws, tt))) (λ κs. (LL.tells L.the-type L′.the-laws, (EL.tells E.the-type E′.the-laws, tt)))
       (λ κs qs bounds a _ are. via 𝓤 _ (fst∗ 𝓤 _ (emp 𝓤)) (walk 𝓤 H A W at-mem run (a .0) (a .1 .0) (LL.val L.the-type L′.the-laws (a .0)) (EL.val E.the-type E′.the-laws (a .1 .0)) (are .0) (are .1 .0) C Λ fm known))
 
-  goes : AllGo 𝓤 H A W 0 (stepped.signature .params) (stepped.ended .kept) stayed
+  goes : AllGo 𝓤 H A W 0 (step-lending.signature .params) (step-lending.ended .kept) stayed
   goes = (goes-none 𝓤 H A W 0 (λ _. L.the-row) yes (λ κs x f. refl), (goes-none 𝓤 H A W 0 (λ _. E.the-row) yes (λ κs x f. refl), tt))
 
-stepped-meets : {M : Type 1} (𝓤 : URA M) (H : Heap 𝓤) (A : Atoms 𝓤) (W : Given 𝓤 H A) (at-mem : Memory → SProp 𝓤) (run : Routine → Fun 𝓤) (𝓣 : Tables 𝓤 H)
-    → Triple 𝓤 (𝓣 .C #link·step-in) (StepIn 𝓤 H A at-mem run) → Meets 𝓤 H A stepped.signature (WpFn 𝓤 H (𝓣 .C) (𝓣 .Λ) code.function) (stepped.spec 𝓤 H A at-mem run)
-stepped-meets 𝓤 H A W at-mem run 𝓣 known = walk-meets 𝓤 H A stepped.ended stayed W (goes 𝓤 H A W at-mem run) (stepped.clauses 𝓤 H A at-mem run) (WpFn 𝓤 H (𝓣 .C) (𝓣 .Λ) code.function) (WpFn-mono 𝓤 H (W .laws) 𝓣 code.function) (stepped-walks 𝓤 H A W at-mem run (𝓣 .C) (𝓣 .Λ) (fmOf 𝓤 H (W .laws) 𝓣) known)
+step-lending-meets : {M : Type 1} (𝓤 : URA M) (H : Heap 𝓤) (A : Atoms 𝓤) (W : Given 𝓤 H A) (at-mem : Memory → SProp 𝓤) (run : Routine → Fun 𝓤) (𝓣 : Tables 𝓤 H)
+    → Triple 𝓤 (𝓣 .C #link·step-lent) (StepLent 𝓤 H A at-mem run) → Meets 𝓤 H A step-lending.signature (WpFn 𝓤 H (𝓣 .C) (𝓣 .Λ) code.function) (step-lending.spec 𝓤 H A at-mem run)
+step-lending-meets 𝓤 H A W at-mem run 𝓣 known = walk-meets 𝓤 H A step-lending.ended stayed W (goes 𝓤 H A W at-mem run) (step-lending.clauses 𝓤 H A at-mem run) (WpFn 𝓤 H (𝓣 .C) (𝓣 .Λ) code.function) (WpFn-mono 𝓤 H (W .laws) 𝓣 code.function) (step-lending-walks 𝓤 H A W at-mem run (𝓣 .C) (𝓣 .Λ) (fmOf 𝓤 H (W .laws) 𝓣) known)
 
-pub stepped-spec : {M : Type 1} → stated.statement M
+pub step-lending-spec : {M : Type 1} → stated.statement M
 unfolding code.routine tablesOf
-stepped-spec 𝓤 H 𝓜 𝓖 𝓡 =
-    entered 𝓤 H (tripleOf 𝓤 H (𝓖 .A) stepped.signature (stepped.spec 𝓤 H (𝓖 .A) (𝓜 .mem) (𝓡 .run)))
-    (tables 𝓤 H 𝓜 𝓡 code.env .C) (tables 𝓤 H 𝓜 𝓡 code.env .Λ) #link·stepped code.function (code.unfolded 𝓤 H 𝓜 𝓡)
-    (stepped-meets 𝓤 H (𝓖 .A) (givenOf 𝓤 H 𝓜 𝓖) (𝓜 .mem) (𝓡 .run) (tablesOf 𝓤 H 𝓜 (tables 𝓤 H 𝓜 𝓡 code.env))
-    (cited 𝓤 H (StepIn 𝓤 H (𝓖 .A) (𝓜 .mem) (𝓡 .run)) 𝓜 𝓡 code.env #link·step-in step-in-def.routine code.calls-link·step-in (step-in-thm.met 𝓤 H 𝓜 𝓖 𝓡)))
+step-lending-spec 𝓤 H 𝓜 𝓖 𝓡 =
+    entered 𝓤 H (tripleOf 𝓤 H (𝓖 .A) step-lending.signature (step-lending.spec 𝓤 H (𝓖 .A) (𝓜 .mem) (𝓡 .run)))
+    (tables 𝓤 H 𝓜 𝓡 code.env .C) (tables 𝓤 H 𝓜 𝓡 code.env .Λ) #link·step-lending code.function (code.unfolded 𝓤 H 𝓜 𝓡)
+    (step-lending-meets 𝓤 H (𝓖 .A) (givenOf 𝓤 H 𝓜 𝓖) (𝓜 .mem) (𝓡 .run) (tablesOf 𝓤 H 𝓜 (tables 𝓤 H 𝓜 𝓡 code.env))
+    (cited 𝓤 H (StepLent 𝓤 H (𝓖 .A) (𝓜 .mem) (𝓡 .run)) 𝓜 𝓡 code.env #link·step-lent step-lent-def.routine code.calls-link·step-lent (step-lent-thm.met 𝓤 H 𝓜 𝓖 𝓡)))
