@@ -1,5 +1,5 @@
--- What a list of actions does in all to each field of a link: the form in which a cell is stored and handed to the link machine. What a step
--- means is said without it.
+-- What a list of actions does in all to each field of a link: the form in which a cell is stored and handed to the link machine. Nothing here has to be
+-- believed: what a step means is said without it, and one law ties the two (link/proofs/Performed.antt).
 use mathlib.Core.Bool.{Bool, true, false}
 use mathlib.Core.List.{List, [], _∷_, _++_}
 use Rattle.unit.specs.declared.Mps.{Mps}
