@@ -1,7 +1,6 @@
 -- The items of A.6.1: a call is taken where no check refuses its event and Table 6 has a cell for it, and turns follow one another. Assumes nothing.
 use mathlib.Core.Path.{_≡_, refl, sym, ap, subst, _∙_}
 use mathlib.Core.Bool.{Bool, true, false, cond, not, true≢false}
-use mathlib.Core.Logic.{_⊎_, inl, inr}
 use mathlib.Core.List.{List, [], _∷_, _++_, map}
 use Prim.Native.Nat.{ℕ, zero, suc, _+_, _-_, _≤_, _<_}
 use native.Mathlib.Omega.{arith}
@@ -19,12 +18,12 @@ use Rattle.table6.specs.declared.State.{State}
 use Rattle.table6.specs.Cell.{T1, T2, T3, Told, cell, Choice, illegal, does, chosen}
 use Rattle.table6.specs.Rows.{printed}
 use Rattle.table6.specs.Order.{signals}
-use Rattle.table6.proofs.Every.{left, right}
 use Rattle.table6.specs.Words.{–, OOS, ANS, LR, SR, ALN, PDUT}
 use Rattle.table6.specs.Words.{1/1/1, 1/4/1, 2/1/2, 2/2/2, 2/10/3, 2/10/4, 3/10/5}
 use Rattle.table6.specs.EventCodes.{MESSAGE-FOR-TRANSMISSION, STOP, START, ESTABLISH-indication, ESTABLISH-confirm, RELEASE-indication, DATA-indication, T1-expired, T2-expired, T3-expired}
 use Rattle.table6.specs.SignalCodes.{code, RECEIVED-MESSAGE, OUT-OF-SERVICE, DATA-request, START-PROVING, STOP-PROVING, SET-T1, SET-T2, SET-T3, RESET-T1, RESET-T2, RESET-T3}
-use Rattle.table6.specs.Table6.{AAL-START-request, AAL-STOP-request, AAL-MESSAGE-FOR-TRANSMISSION-request, AA-ESTABLISH-indication-with-EM-NM, AA-ESTABLISH-confirm-with-EM-NM, AA-RELEASE-indication-from-User, AA-RELEASE-indication-from-SSCOP, AA-DATA-indication-with-INS, AA-DATA-indication-with-MU>4, T1-expires, T2-expires, T3-expires-and-C1>0, T3-expires-and-C1=0}
+use Rattle.table6.specs.Table6.{AAL-START-request, AAL-STOP-request, AAL-MESSAGE-FOR-TRANSMISSION-request, AA-ESTABLISH-indication-with-EM-NM, AA-ESTABLISH-confirm-with-EM-NM, AA-RELEASE-indication-from-User, AA-RELEASE-indication-from-SSCOP}
+use Rattle.table6.specs.Table6.{AA-DATA-indication-with-INS, AA-DATA-indication-with-MU>4, T1-expires, T2-expires, T3-expires-and-C1>0, T3-expires-and-C1=0}
 use Rattle.link.specs.declared.Num.{Num}
 use Rattle.link.specs.declared.Carries.{Carries}
 use Rattle.link.specs.declared.Link.{Link}
@@ -51,7 +50,9 @@ use Rattle.sscf.proofs.Taken.{Makes, step-accepted}
 use Rattle.sscf.proofs.Untouched.{number-above, refusals-untouched, same-lengths, stays-well-formed, accepted-written}
 use Rattle.sscf.proofs.AllFresh.{fresh-well-formed}
 use Rattle.history.specs.Calls.{Call, fresh, step, signalsIn, World, made, next, run, AfterEachCall}
-use Rattle.history.specs.Pics.{Turn, _⇒_, room, Happens, linkIn, Leads, plain, asking, from-peer, coded, released, message, arriving, release, unit, report, report-uu, request, response, units, readies, completes, joins, notes, later, sooner, Brings, Serves, starts, answers, confirms, fails, SNPC1, SNPC2, SNPC3, SNPC4, SNPC5, SNPC6, toUser, toSSCOP, toManagement, toTimers, oneOf, every, SNPC6-1, SNPC7, SNPC8, SNSP1, SNSP2}
+use Rattle.history.specs.Pics.{Turn, _⇒_, room, Happens, linkIn, Leads, plain, asking, from-peer, coded, released, message, arriving, release, unit, report, report-uu}
+use Rattle.history.specs.Pics.{request, response, units, readies, completes, joins, notes, later, sooner, Brings, Serves, starts, answers, confirms, fails, SNPC1, SNPC2}
+use Rattle.history.specs.Pics.{SNPC3, SNPC4, SNPC5, SNPC6, toUser, toSSCOP, toManagement, toTimers, oneOf, every, SNPC6-1, SNPC7, SNPC8, SNSP1, SNSP2}
 use Rattle.history.specs.History.{Mark, history}
 use Rattle.history.specs.Tests.{alive}
 use Rattle.history.proofs.Tested.{alive-there}

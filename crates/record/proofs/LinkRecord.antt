@@ -22,7 +22,7 @@ use Rattle.link.specs.Signal.{none}
 use Rattle.record.specs.declared.Slot.{Slot}
 use Rattle.record.specs.declared.SomeState.{SomeState}
 use Rattle.record.specs.declared.SomeMps.{SomeMps}
-use Rattle.octet.specs.Octets.{Octets, at, two, bit}
+use Rattle.octet.specs.Octets.{at, two, bit}
 use Rattle.octet.proofs.Octets.{bit-le, octet-at, high-same, low-same}
 use Rattle.record.specs.LinkRecord.{stateCode, stateAt, mpsAt, upsAt, octetsOf, linkOf, wellFormed, slotOf, found, Unpacked, PackedWell, UnpackedGood, Repacked}
 use Rattle.record.specs.Decoded.{someState, someMps, restFormed}

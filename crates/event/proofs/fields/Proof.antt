@@ -1,8 +1,10 @@
 -- `event::fields` meets its contract: at each code what its fields come to, and past them none is left. Assumes nothing.
 use borrow.Author.Needs.{needs}
 use mathlib.Core.Path.{refl, _∙_}
-use Rattle.octet.specs.Octets.{at}
-use Rattle.table6.specs.EventCodes.{MESSAGE-FOR-TRANSMISSION, EMERGENCY, EMERGENCY-CEASES, STOP, START, RETRIEVE-BSNT, RETRIEVAL-REQUEST-AND-FSNC, FLUSH-BUFFERS, CONTINUE, ESTABLISH-indication, ESTABLISH-confirm, RELEASE-indication, RELEASE-confirm, DATA-indication, RESYNC-indication, RECOVER-indication, UNITDATA-indication, RETRIEVE-indication, RETRIEVE-COMPLETE-indication, PROVING-UNSUCCESSFUL, RELEASE, OUTAGE, RECOVERED, FORCE-PROVING, FORCE-EMERGENCY, CLEAR-FORCE-MODES, CONGESTION, CONGESTION-CEASED, T1-expired, T2-expired, T3-expired}
+use Rattle.table6.specs.EventCodes.{MESSAGE-FOR-TRANSMISSION, EMERGENCY, EMERGENCY-CEASES, STOP, START, RETRIEVE-BSNT, RETRIEVAL-REQUEST-AND-FSNC, FLUSH-BUFFERS, CONTINUE}
+use Rattle.table6.specs.EventCodes.{ESTABLISH-indication, ESTABLISH-confirm, RELEASE-indication, RELEASE-confirm, DATA-indication, RESYNC-indication, RECOVER-indication, UNITDATA-indication, RETRIEVE-indication, RETRIEVE-COMPLETE-indication}
+use Rattle.table6.specs.EventCodes.{PROVING-UNSUCCESSFUL, RELEASE, OUTAGE, RECOVERED, FORCE-PROVING, FORCE-EMERGENCY, CLEAR-FORCE-MODES, CONGESTION, CONGESTION-CEASED}
+use Rattle.table6.specs.EventCodes.{T1-expired, T2-expired, T3-expired}
 use Rattle.event.specs.Frame.{lengthAt, paramAt, numberAt}
 use Rattle.event.specs.EventRecord.{codedAt}
 use Rattle.event.proofs.Frame.{at-most}
