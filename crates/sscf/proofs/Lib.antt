@@ -1,5 +1,6 @@
 pub mod AllFresh
 pub mod Copies
+pub mod Numbers
 pub mod OneAnswer
 pub mod Places
 pub mod Taken

@@ -1,5 +1,6 @@
 pub mod Checks
 pub mod Step
+pub mod Numbers
 pub mod Plan
 pub mod Fresh
 pub mod Untouched
