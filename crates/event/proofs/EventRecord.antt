@@ -7,6 +7,7 @@ use mathlib.Core.List.{List, [], _∷_}
 use lib.Dec.{eqb, leb}
 use lib.ListN.{length}
 use borrow.Author.Tests.{leb-false, eqb-true, ne-eqb, not-false, not-true}
+use Rattle.table6.specs.RefusalCodes.{REFUSED-CODE, REFUSED-FRAME}
 use Rattle.unit.specs.declared.Arrived.{Arrived}
 use Rattle.unit.specs.Unit.{arrived}
 use Rattle.unit.specs.Answered.{Answered, refused, accepted}
@@ -50,7 +51,7 @@ back-is Reading.Fits = refl
 pub one-reading : (r s : Reading) → reading r ≡ reading s → r ≡ s
 one-reading r s h = sym (back-is r) ∙ ap back h ∙ back-is s
 
-tells : (f : Bool) (x : Coded) (m : Bool) → Told (back (cond f (saying x m) (refused 2))) f x m
+tells : (f : Bool) (x : Coded) (m : Bool) → Told (back (cond f (saying x m) (refused REFUSED-FRAME))) f x m
 tells false x m = refl
 tells true Coded.Unknown m = (refl, refl)
 tells true (Coded.Of x) true = (refl, refl, refl)
@@ -82,7 +83,7 @@ at-code e c k h g =
     ∙ fitted (codedAt c (paramAt e) (numberAt e) (lengthAt e) (arrived (messageOf e))) (misfit c (paramAt e) (numberAt e) (lengthAt e)) h
     ∙ ap (λ (y : ℕ). saying (codedAt y (paramAt e) (numberAt e) (lengthAt e) (arrived (messageOf e))) (misfit y (paramAt e) (numberAt e) (lengthAt e))) (sym k)
 
-pub no-code : (e : List ℕ) → codedIn e ≡ Coded.Unknown → refused 3 ≡ fieldsOf e
+pub no-code : (e : List ℕ) → codedIn e ≡ Coded.Unknown → refused REFUSED-CODE ≡ fieldsOf e
 unfolding fieldsOf
 no-code e h = rw h
 

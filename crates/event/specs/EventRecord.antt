@@ -13,6 +13,7 @@ use Rattle.table6.specs.EventCodes.{MESSAGE-FOR-TRANSMISSION, EMERGENCY, EMERGE
 use Rattle.table6.specs.EventCodes.{ESTABLISH-indication, ESTABLISH-confirm, RELEASE-indication, RELEASE-confirm, DATA-indication, RESYNC-indication, RECOVER-indication, UNITDATA-indication, RETRIEVE-indication, RETRIEVE-COMPLETE-indication}
 use Rattle.table6.specs.EventCodes.{PROVING-UNSUCCESSFUL, RELEASE, OUTAGE, RECOVERED, FORCE-PROVING, FORCE-EMERGENCY, CLEAR-FORCE-MODES, CONGESTION, CONGESTION-CEASED}
 use Rattle.table6.specs.EventCodes.{T1-expired, T2-expired, T3-expired}
+use Rattle.table6.specs.RefusalCodes.{REFUSED-FRAME, REFUSED-CODE, REFUSED-FIELD}
 use Rattle.link.specs.declared.Num.{Num}
 use Rattle.link.specs.declared.Event.{Event}
 use Rattle.link.specs.declared.Event.the-variants as event
@@ -167,23 +168,23 @@ misfit c p n len =
 
 -- The reader's answers in document 01's numbers. A sound record brings no value with it: what it holds is read off its octets.
 abbrev pub reading : Reading → Answered (Unit {0})
-reading Reading.BadFrame = refused 2
-reading Reading.UnknownCode = refused 3
-reading Reading.Misfit = refused 4
+reading Reading.BadFrame = refused REFUSED-FRAME
+reading Reading.UnknownCode = refused REFUSED-CODE
+reading Reading.Misfit = refused REFUSED-FIELD
 reading Reading.Fits = accepted tt
 
 abbrev pub fitting : Bool → Answered (Unit {0})
-fitting misfits = cond misfits (refused 4) (accepted tt)
+fitting misfits = cond misfits (refused REFUSED-FIELD) (accepted tt)
 
 abbrev pub saying : Coded → Bool → Answered (Unit {0})
-saying Coded.Unknown misfits = refused 3
+saying Coded.Unknown misfits = refused REFUSED-CODE
 saying (Coded.Of x) misfits = fitting misfits
 
 unfoldable pub fieldsOf : List ℕ → Answered (Unit {0})
 fieldsOf e = saying (codedIn e) (misfit (codeAt e) (paramAt e) (numberAt e) (lengthAt e))
 
 unfoldable pub readingOf : List ℕ → Answered (Unit {0})
-readingOf e = cond (framed e) (fieldsOf e) (refused 2)
+readingOf e = cond (framed e) (fieldsOf e) (refused REFUSED-FRAME)
 
 -- ROUND TRIPS
 

@@ -3,14 +3,16 @@ use Prim.Native.Nat.{_≤_}
 use mathlib.Core.Path.{_≡_}
 use mathlib.Core.Logic.{_↔_}
 use Rattle.unit.specs.declared.Mps.{Mps}
+use Rattle.table6.specs.Words.{3/10/5}
 use Rattle.octet.specs.Octets.{at}
+use Rattle.record.specs.LinkRecord.{stateCode}
 use Rattle.sscf.specs.Step.{recordAt}
 use Rattle.history.specs.Calls.{AfterEachCall}
 use Rattle.history.specs.History.{history, provingSent, inService, Somewhere, count, Stands, Connection, since, begun, mps, Served}
 
 -- The line in the register: a link's state octet is 8 exactly if it stands in service.
 abbrev pub StateOctet : Type 0
-StateOctet = AfterEachCall (λ w link. (at (recordAt (w .table) link) 2 ≡ 8) ↔ Stands (history w link))
+StateOctet = AfterEachCall (λ w link. (at (recordAt (w .table) link) 2 ≡ stateCode 3/10/5) ↔ Stands (history w link))
 
 -- "Neither customer may have a link in service before both ends have said they are ready": whenever the in-service indication was given, the conditions of
 -- the demand held of all that was seen before it, not only when its call was over.

@@ -6,6 +6,7 @@ use lib.Dec.{eqb, ltb}
 use lib.ListN.{length}
 use Rattle.unit.specs.Answered.{Answered, refused, accepted}
 use Rattle.table6.specs.declared.State.{State}
+use Rattle.table6.specs.RefusalCodes.{REFUSED-FRAME}
 use Rattle.link.specs.declared.Link.{Link}
 use Rattle.octet.specs.Octets.{at}
 use Rattle.record.specs.LinkRecord.{slotOf}
@@ -14,7 +15,7 @@ use Rattle.lines.specs.Text.{ascii, decimal, hexadecimal, line}
 
 -- "Per event it prints E, ordinal, link, event code, refusal, signals"; "a refusal 2 prints link and code as 0".
 abbrev pub shown : ℕ → ℕ → ℕ
-shown refusal n = cond (eqb refusal 2) 0 n
+shown refusal n = cond (eqb refusal REFUSED-FRAME) 0 n
 
 abbrev pub eventLine : ℕ → List ℕ → ℕ → ℕ → List ℕ
 eventLine ordinal e refusal signals =

@@ -18,8 +18,8 @@ use Rattle.link.proofs.fresh.Reads as fresh
 use Rattle.link.proofs.step.Kinds as step-kinds
 use Rattle.link.proofs.step.Reads as step
 use Rattle.link.proofs.step_lent as step-lent
-use Rattle.link.proofs.step_lending.Kinds as step-lending-kinds
-use Rattle.link.proofs.step_lending.Reads as step-lending
+use Rattle.link.proofs.step_plain.Kinds as step-plain-kinds
+use Rattle.link.proofs.step_plain.Reads as step-plain
 use Rattle.link.proofs.count.Kinds as count-kinds
 use Rattle.link.proofs.count.Reads as count
 
@@ -41,8 +41,8 @@ step-lent-one M 𝓤 H A mem run κs a g r s e f =
     let R : SProp 𝓤 = step-lent.clauses 𝓤 H A mem run κs a .ensures g s f in
     fact-use 𝓤 _ (fst∗ 𝓤 L R) (λ p. fact-use 𝓤 _ (snd∗ 𝓤 L R) (λ q. factI 𝓤 _ (sep 𝓤 L R) (one-turn p q)))
 
-pub step-lending-one : OneReading step-lending-kinds.ps step-lending-kinds.r Both (λ κs arguments x e. (x .link, replied (x .reply))) step-lending.Post
-step-lending-one κs arguments x y e f = one-turn
+pub step-plain-one : OneReading step-plain-kinds.ps step-plain-kinds.r Both (λ κs arguments x e. (x .link, replied (x .reply))) step-plain.Post
+step-plain-one κs arguments x y e f = one-turn
 
 pub count-one : OneAnswer count-kinds.ps count-kinds.r count.Post
 count-one κs arguments x y e f = equal

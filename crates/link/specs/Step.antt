@@ -17,7 +17,7 @@ use Rattle.link.specs.declared.Event.{Event}
 use Rattle.link.specs.declared.Event.the-variants as event
 use Rattle.link.specs.declared.Signal.{Signal}
 use Rattle.link.specs.Effect.{with-state, performed}
-use Rattle.link.specs.Signal.{none, num, signalOf}
+use Rattle.link.specs.Signal.{none, signalOf}
 
 -- The rows that an event meets, and what it brings: the parameter, the number, the source of a release, the length of a retrieved message.
 pub record Meeting : Type 0 where

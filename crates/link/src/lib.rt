@@ -409,7 +409,7 @@ fn step_lent(l: &mut Link, e: Event) -> Reply
 }
 
 // The same with plain parameters: a copy is lent, so that no caller of this walks its code by hand.
-pub fn step_lending(l: Link, e: Event) -> Turn
+pub fn step_plain(l: Link, e: Event) -> Turn
     ensures { λ r. ⌜ Turned l (stepOf l e) (r .link) (r .reply) ⌝ }
 {
     let mut k = l;

@@ -8,6 +8,7 @@ use native.Mathlib.Nat.{div-add-mod'}
 use lib.Dec.{eqb, leb}
 use lib.ListN.{length}
 use borrow.Author.Tests.{eqb-true, leb-true, le-leb, lt-leb}
+use Rattle.table6.specs.RefusalCodes.{REFUSED-RECORD}
 use Rattle.unit.specs.declared.Mps.{Mps}
 use Rattle.unit.specs.declared.Ups.{Ups}
 use Rattle.unit.specs.Proving.{mpsCode, upsCode}
@@ -293,7 +294,7 @@ back-is (Slot.Holds l) = refl
 pub one-slot : (s t : Slot) → found s ≡ found t → s ≡ t
 one-slot s t h = sym (back-is s) ∙ ap back h ∙ back-is t
 
-tells : (r : List ℕ) (b : Bool) → eqb (length r) 16 && wellFormed r ≡ b → SlotTold r (back (cond b (accepted (linkOf r)) (refused 6)))
+tells : (r : List ℕ) (b : Bool) → eqb (length r) 16 && wellFormed r ≡ b → SlotTold r (back (cond b (accepted (linkOf r)) (refused REFUSED-RECORD)))
 tells r false e = e
 tells r true e = (right (eqb (length r) 16) (wellFormed r) e, refl)
 

@@ -10,6 +10,7 @@ use Rattle.unit.specs.declared.Ups.{Ups}
 use Rattle.unit.specs.Proving.{mpsCode, upsCode}
 use Rattle.unit.specs.Answered.{Answered, refused, accepted}
 use Rattle.table6.specs.declared.State.{State}
+use Rattle.table6.specs.RefusalCodes.{REFUSED-RECORD}
 use Rattle.link.specs.declared.Link.{Link}
 use Rattle.link.specs.Effect.{NoneIsZero}
 use Rattle.record.specs.declared.Slot.{Slot}
@@ -93,12 +94,12 @@ wellFormed r =
 
 -- The reader's answers in document 01's number and values.
 abbrev pub found : Slot → Answered Link
-found Slot.IllFormed = refused 6
+found Slot.IllFormed = refused REFUSED-RECORD
 found (Slot.Holds l) = accepted l
 
 -- What octets are as a link's record: a link, or refused by check 6.
 unfoldable pub slotOf : List ℕ → Answered Link
-slotOf r = cond (eqb (length r) recordOctets && wellFormed r) (accepted (linkOf r)) (refused 6)
+slotOf r = cond (eqb (length r) recordOctets && wellFormed r) (accepted (linkOf r)) (refused REFUSED-RECORD)
 
 -- ROUND TRIPS. Unpacking what was packed gives the record.
 abbrev pub Unpacked : Type 0

@@ -1,6 +1,5 @@
 pub mod AllFresh
 pub mod Copies
-pub mod Numbers
 pub mod OneAnswer
 pub mod Places
 pub mod Taken

@@ -2,18 +2,19 @@
 use Prim.Native.Nat.{ℕ}
 use mathlib.Core.Bool.{Bool, cond}
 use mathlib.Core.List.{List, [], _∷_}
+use Rattle.table6.specs.RefusalCodes.{REFUSED-TABLE, REFUSED-FRAME, REFUSED-CODE, REFUSED-FIELD, REFUSED-LINK, REFUSED-RECORD, REFUSED-TIMER, REFUSED-STATE, REFUSED-OUTPUT}
 use Rattle.sscf.specs.declared.checks.Refusal.{Refusal}
 
 abbrev pub number : Refusal → ℕ
-number Refusal.Table = 1
-number Refusal.Frame = 2
-number Refusal.Code = 3
-number Refusal.Field = 4
-number Refusal.Link = 5
-number Refusal.Record = 6
-number Refusal.Timer = 7
-number Refusal.Cell = 8
-number Refusal.Room = 9
+number Refusal.Table = REFUSED-TABLE
+number Refusal.Frame = REFUSED-FRAME
+number Refusal.Code = REFUSED-CODE
+number Refusal.Field = REFUSED-FIELD
+number Refusal.Link = REFUSED-LINK
+number Refusal.Record = REFUSED-RECORD
+number Refusal.Timer = REFUSED-TIMER
+number Refusal.Cell = REFUSED-STATE
+number Refusal.Room = REFUSED-OUTPUT
 
 -- A refusal, given exactly if its test holds and none before it does.
 pub record Check : Type 0 where

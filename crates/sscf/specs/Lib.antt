@@ -1,6 +1,5 @@
 pub mod Checks
 pub mod Step
-pub mod Numbers
 pub mod Plan
 pub mod Fresh
 pub mod Untouched

@@ -99,7 +99,7 @@ fn link_plan(t: &[u8], e: &[u8], room: usize) -> Plan
             if idle(l, e[4]) {
                 return Plan::Refused(Refusal::Timer);
             }
-            let turn = link::step_lending(l, event::event(e));
+            let turn = link::step_plain(l, event::event(e));
             let next = turn.link;
             let reply = turn.reply;
             match reply {

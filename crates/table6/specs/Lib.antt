@@ -1,5 +1,6 @@
 pub mod EventCodes
 pub mod SignalCodes
+pub mod RefusalCodes
 pub mod Words
 pub mod Cell
 pub mod Table6

@@ -4,6 +4,7 @@ use mathlib.Core.Path.{_≡_, sym, _∙_}
 use mathlib.Core.Bool.{true, false}
 use mathlib.Core.List.{List}
 use borrow.Author.Needs.{needs}
+use Rattle.table6.specs.RefusalCodes.{REFUSED-FRAME}
 use Rattle.unit.specs.Answered.{Answered, refused}
 use Rattle.event.specs.EventRecord.{framed, fieldsOf, readingOf}
 use Rattle.event.specs.Frame.{EV}
@@ -15,7 +16,7 @@ taken : (e : List ℕ) {a : Answered (Unit {0})} → framed e ≡ true → a ≡
 unfolding readingOf
 taken e f g = rw f g
 
-broken : (e : List ℕ) → framed e ≡ false → refused 2 ≡ readingOf e
+broken : (e : List ℕ) → framed e ≡ false → refused REFUSED-FRAME ≡ readingOf e
 unfolding readingOf
 broken e f = rw f
 

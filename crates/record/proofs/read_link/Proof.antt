@@ -5,6 +5,7 @@ use mathlib.Core.Bool.{true, false}
 use mathlib.Core.List.{List}
 use Prim.Native.Nat.{ℕ}
 use lib.ListN.{length}
+use Rattle.table6.specs.RefusalCodes.{REFUSED-RECORD}
 use Rattle.unit.specs.Answered.{refused, accepted}
 use Rattle.link.specs.declared.Link.{Link}
 use Rattle.record.specs.declared.SomeState.{SomeState}
@@ -20,7 +21,7 @@ sound : (r : List ℕ) {l : Link} → length r ≡ 16 → wellFormed r ≡ true 
 unfolding slotOf
 sound r n w e = rw (eq-eqb (length r) 16 n, w, e)
 
-broken : (r : List ℕ) → length r ≡ 16 → wellFormed r ≡ false → refused 6 ≡ slotOf r
+broken : (r : List ℕ) → length r ≡ 16 → wellFormed r ≡ false → refused REFUSED-RECORD ≡ slotOf r
 unfolding slotOf
 broken r n w = rw (eq-eqb (length r) 16 n, w)
 

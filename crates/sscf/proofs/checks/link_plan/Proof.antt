@@ -60,20 +60,20 @@ running : (c : tie.Else2) → idle (c .before .before .before .before .l .given 
 running c = sym (c .before .idle .ensures) ∙ c .if2 .left
 
 -- what the step left and said, of the record and the event that the octets hold
-abbrev L : tie.After-step-lending → Link
+abbrev L : tie.After-step-plain → Link
 L c = c .before .before .before .before .before .before .l .given .0 .0
 
-abbrev Out : tie.After-step-lending → machine.Outcome
+abbrev Out : tie.After-step-plain → machine.Outcome
 Out c = machine.stepOf (L c) (eventOf (c .before .before .before .before .before .before .before .before .before .before .before .before .before .args .e .now))
 
-turned : (c : tie.After-step-lending) → Turned (L c) (Out c) (c .step-lending .result .link) (c .step-lending .result .reply)
+turned : (c : tie.After-step-plain) → Turned (L c) (Out c) (c .step-plain .result .link) (c .step-plain .result .reply)
 turned c =
-    subst (λ (x : Event). Turned (L c) (machine.stepOf (L c) x) (c .step-lending .result .link) (c .step-lending .result .reply)) (c .before .event .ensures) (c .step-lending .ensures)
+    subst (λ (x : Event). Turned (L c) (machine.stepOf (L c) x) (c .step-plain .result .link) (c .step-plain .result .reply)) (c .before .event .ensures) (c .step-plain .ensures)
 
 illegal : (c : tie.After-enum-told2) → Out (c .before .before .before) ≡ machine.Illegal
 illegal c = was-illegal (Out (c .before .before .before)) (c .enum-told2 .given .1) (turned (c .before .before .before))
 
-legal : (c : tie.After-reply) → Out (c .before .before .before) ≡ machine.Legal (c .before .before .before .step-lending .result .link) (signalsOf (c .reply .given .0 .0))
+legal : (c : tie.After-reply) → Out (c .before .before .before) ≡ machine.Legal (c .before .before .before .step-plain .result .link) (signalsOf (c .reply .given .0 .0))
 legal c = was-legal (Out (c .before .before .before)) (c .reply .given .1) (turned (c .before .before .before))
 
 link-requires : tie.Need-link-requires
@@ -111,8 +111,8 @@ returns-2 c =
 event-requires : tie.Need-event-requires
 event-requires c κs = search needs
 
-step-lending-requires : tie.Need-step-lending-requires
-step-lending-requires c κs = search needs
+step-plain-requires : tie.Need-step-plain-requires
+step-plain-requires c κs = search needs
 
 enum-told-2 : tie.Need-enum-told-2
 enum-told-2 c = search needs
@@ -153,7 +153,7 @@ link-plan-spec =
     idle-requires
     returns-2
     event-requires
-    step-lending-requires
+    step-plain-requires
     enum-told-2
     enum-known-reply
     returns-3

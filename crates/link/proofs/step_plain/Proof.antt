@@ -1,4 +1,4 @@
--- `link::step_lending` meets its contract: a walk of its MIR, by hand. The record is copied to a local, which is lent to `step_lent` for a lifetime that is
+-- `link::step_plain` meets its contract: a walk of its MIR, by hand. The record is copied to a local, which is lent to `step_lent` for a lifetime that is
 -- made for the call; the lifetime is ended, the local comes back at its last value, and the turn is put together of it and the reply.
 -- All that is known of `step_lent` is that it meets its contract. Machine values stay names, each with its type's relation in hand.
 -- Assumes nothing.
@@ -58,15 +58,15 @@ use Rattle.link.proofs.step_lent as step-lent
 use Rattle.link.proofs.step_lent.Symbol as step-lent-def
 use Rattle.link.proofs.step_lent.Symbol.{name as #link·step-lent}
 use Rattle.link.proofs.step_lent.Met as step-lent-thm
-use Rattle.link.proofs.step_lending.Key.{name as #link·step-lending}
-use Rattle.link.proofs.step_lending as step-lending
-use Rattle.link.proofs.step_lending.Statement as stated
-use Rattle.link.proofs.step_lending.Code as code
+use Rattle.link.proofs.step_plain.Key.{name as #link·step-plain}
+use Rattle.link.proofs.step_plain as step-plain
+use Rattle.link.proofs.step_plain.Statement as stated
+use Rattle.link.proofs.step_plain.Code as code
 
 abbrev Arg : Type 0
 Arg = Link × (Event × Unit {0})
 
-abbrev stayed : Stays (step-lending.ended .signature .params) (step-lending.ended .kept)
+abbrev stayed : Stays (step-plain.ended .signature .params) (step-plain.ended .kept)
 stayed = (stay-none (λ _. L.the-row) yes, (stay-none (λ _. E.the-row) yes, tt))
 
 -- what both contracts say of the record at exit and the reply
@@ -130,11 +130,11 @@ module _ {M : Type 1} (𝓤 : URA M) (H : Heap 𝓤) (A : Atoms 𝓤) (W : Given
   at = (at-l ∷ [], (at-e ∷ [], tt))
 
   abbrev Post : Val → SProp 𝓤
-  Post = walkOf 𝓤 H A step-lending.ended stayed (step-lending.clauses 𝓤 H A at-mem run) .post ((tt, tt, tt, x, at), tt)
+  Post = walkOf 𝓤 H A step-plain.ended stayed (step-plain.clauses 𝓤 H A at-mem run) .post ((tt, tt, tt, x, at), tt)
 
   exits : (k : Link) (s : Reply) (v : Val) → Is T.the-row (turn k s) (v ∷ []) → Fits l e k s → ent 𝓤 (emp 𝓤) (Post v)
   exits k s v is fits =
-      qed W [] ∵ suffices ! _ (ends-at 𝓤 H A step-lending.ended stayed (step-lending.clauses 𝓤 H A at-mem run) W ((tt, tt, tt, x, at), tt) v (turn k s) (tt, (tt, tt)) (tt, (tt, tt))) $ says ! fits $
+      qed W [] ∵ suffices ! _ (ends-at 𝓤 H A step-plain.ended stayed (step-plain.clauses 𝓤 H A at-mem run) W ((tt, tt, tt, x, at), tt) v (turn k s) (tt, (tt, tt)) (tt, (tt, tt))) $ says ! fits $
       owned ! T.the-row (Is T.the-row) (LL.makes T.the-type T′.the-plain 𝓤 H A) (turn k s) _ is $ nothing ! $ owned ! E.the-row (Is E.the-row) (EL.makes E.the-type E′.the-plain 𝓤 H A) e _ e-is $ fjoin ! $
       owned ! L.the-row (Is L.the-row) (LL.makes L.the-type L′.the-plain 𝓤 H A) l _ l-is $ fjoin ! $ nothing ! $ done !
 
@@ -149,7 +149,7 @@ module _ {M : Type 1} (𝓤 : URA M) (H : Heap 𝓤) (A : Atoms 𝓤) (W : Given
       nothing ! $ move ! (2 ∷ 0 ∷ []) $ join ! $ join ! $ frame ! $ done !
 
   module _ (C : Calls 𝓤 H) (Λ : Loops 𝓤 H) (fm : FmC 𝓤 H (W .laws) C) (known : Triple 𝓤 (C #link·step-lent) (StepLent 𝓤 H A at-mem run)) where
-    walk : ent 𝓤 (onEntry 𝓤 H A step-lending.signature tt tt x at) (WpFn 𝓤 H C Λ code.function (at-l ∷ at-e ∷ []) Post)
+    walk : ent 𝓤 (onEntry 𝓤 H A step-plain.signature tt tt x at) (WpFn 𝓤 H C Λ code.function (at-l ∷ at-e ∷ []) Post)
     walk =
         qed W (‵ ftrue ∷ ‵ (owns (L.the-row ∷ E.the-row ∷ []) x at) ∷ []) ∵ enter ! C Λ code.function (at-l ∷ at-e ∷ []) _ $
         alloc1 ! (λ l₀. alloc1 ! (λ l₁. alloc1 ! (λ l₂. alloc1 ! (λ l₃. alloc1 ! (λ l₄. alloc1 ! (λ l₅. alloc1 ! (λ l₆. alloc0 ! $ params1 ! $
@@ -183,21 +183,21 @@ module _ {M : Type 1} (𝓤 : URA M) (H : Heap 𝓤) (A : Atoms 𝓤) (W : Given
         keep ! [] $ by ! (exits (ks .0) s (at-turn u w) (together (ks .0) s u w k-is s-is) fits)))))))))))))))))
 
 module _ {M : Type 1} (𝓤 : URA M) (H : Heap 𝓤) (A : Atoms 𝓤) (W : Given 𝓤 H A) (at-mem : Memory → SProp 𝓤) (run : Routine → Fun 𝓤) where
-  step-lending-walks : (C : Calls 𝓤 H) (Λ : Loops 𝓤 H) → FmC 𝓤 H (W .laws) C → Triple 𝓤 (C #link·step-lent) (StepLent 𝓤 H A at-mem run) → Walks 𝓤 H A step-lending.ended stayed (WpFn 𝓤 H C Λ code.function) (step-lending.clauses 𝓤 H A at-mem run)
-  step-lending-walks C Λ fm known = walked 𝓤 H A step-lending.ended stayed (step-lending.clauses 𝓤 H A at-mem run) (WpFn 𝓤 H C Λ code.function) (λ κs. (LL.vals L.the-type L′.the-laws, (EL.vals E.the-type E′.the-laws, tt))) (λ κs. (LL.tells L.the-type L′.the-laws, (EL.tells E.the-type E′.the-laws, tt)))
+  step-plain-walks : (C : Calls 𝓤 H) (Λ : Loops 𝓤 H) → FmC 𝓤 H (W .laws) C → Triple 𝓤 (C #link·step-lent) (StepLent 𝓤 H A at-mem run) → Walks 𝓤 H A step-plain.ended stayed (WpFn 𝓤 H C Λ code.function) (step-plain.clauses 𝓤 H A at-mem run)
+  step-plain-walks C Λ fm known = walked 𝓤 H A step-plain.ended stayed (step-plain.clauses 𝓤 H A at-mem run) (WpFn 𝓤 H C Λ code.function) (λ κs. (LL.vals L.the-type L′.the-laws, (EL.vals E.the-type E′.the-laws, tt))) (λ κs. (LL.tells L.the-type L′.the-laws, (EL.tells E.the-type E′.the-laws, tt)))
       (λ κs qs bounds a _ are. via 𝓤 _ (fst∗ 𝓤 _ (emp 𝓤)) (walk 𝓤 H A W at-mem run (a .0) (a .1 .0) (LL.val L.the-type L′.the-laws (a .0)) (EL.val E.the-type E′.the-laws (a .1 .0)) (are .0) (are .1 .0) C Λ fm known))
 
-  goes : AllGo 𝓤 H A W 0 (step-lending.signature .params) (step-lending.ended .kept) stayed
+  goes : AllGo 𝓤 H A W 0 (step-plain.signature .params) (step-plain.ended .kept) stayed
   goes = (goes-none 𝓤 H A W 0 (λ _. L.the-row) yes (λ κs x f. refl), (goes-none 𝓤 H A W 0 (λ _. E.the-row) yes (λ κs x f. refl), tt))
 
-step-lending-meets : {M : Type 1} (𝓤 : URA M) (H : Heap 𝓤) (A : Atoms 𝓤) (W : Given 𝓤 H A) (at-mem : Memory → SProp 𝓤) (run : Routine → Fun 𝓤) (𝓣 : Tables 𝓤 H)
-    → Triple 𝓤 (𝓣 .C #link·step-lent) (StepLent 𝓤 H A at-mem run) → Meets 𝓤 H A step-lending.signature (WpFn 𝓤 H (𝓣 .C) (𝓣 .Λ) code.function) (step-lending.spec 𝓤 H A at-mem run)
-step-lending-meets 𝓤 H A W at-mem run 𝓣 known = walk-meets 𝓤 H A step-lending.ended stayed W (goes 𝓤 H A W at-mem run) (step-lending.clauses 𝓤 H A at-mem run) (WpFn 𝓤 H (𝓣 .C) (𝓣 .Λ) code.function) (WpFn-mono 𝓤 H (W .laws) 𝓣 code.function) (step-lending-walks 𝓤 H A W at-mem run (𝓣 .C) (𝓣 .Λ) (fmOf 𝓤 H (W .laws) 𝓣) known)
+step-plain-meets : {M : Type 1} (𝓤 : URA M) (H : Heap 𝓤) (A : Atoms 𝓤) (W : Given 𝓤 H A) (at-mem : Memory → SProp 𝓤) (run : Routine → Fun 𝓤) (𝓣 : Tables 𝓤 H)
+    → Triple 𝓤 (𝓣 .C #link·step-lent) (StepLent 𝓤 H A at-mem run) → Meets 𝓤 H A step-plain.signature (WpFn 𝓤 H (𝓣 .C) (𝓣 .Λ) code.function) (step-plain.spec 𝓤 H A at-mem run)
+step-plain-meets 𝓤 H A W at-mem run 𝓣 known = walk-meets 𝓤 H A step-plain.ended stayed W (goes 𝓤 H A W at-mem run) (step-plain.clauses 𝓤 H A at-mem run) (WpFn 𝓤 H (𝓣 .C) (𝓣 .Λ) code.function) (WpFn-mono 𝓤 H (W .laws) 𝓣 code.function) (step-plain-walks 𝓤 H A W at-mem run (𝓣 .C) (𝓣 .Λ) (fmOf 𝓤 H (W .laws) 𝓣) known)
 
-pub step-lending-spec : {M : Type 1} → stated.statement M
+pub step-plain-spec : {M : Type 1} → stated.statement M
 unfolding code.routine tablesOf
-step-lending-spec 𝓤 H 𝓜 𝓖 𝓡 =
-    entered 𝓤 H (tripleOf 𝓤 H (𝓖 .A) step-lending.signature (step-lending.spec 𝓤 H (𝓖 .A) (𝓜 .mem) (𝓡 .run)))
-    (tables 𝓤 H 𝓜 𝓡 code.env .C) (tables 𝓤 H 𝓜 𝓡 code.env .Λ) #link·step-lending code.function (code.unfolded 𝓤 H 𝓜 𝓡)
-    (step-lending-meets 𝓤 H (𝓖 .A) (givenOf 𝓤 H 𝓜 𝓖) (𝓜 .mem) (𝓡 .run) (tablesOf 𝓤 H 𝓜 (tables 𝓤 H 𝓜 𝓡 code.env))
+step-plain-spec 𝓤 H 𝓜 𝓖 𝓡 =
+    entered 𝓤 H (tripleOf 𝓤 H (𝓖 .A) step-plain.signature (step-plain.spec 𝓤 H (𝓖 .A) (𝓜 .mem) (𝓡 .run)))
+    (tables 𝓤 H 𝓜 𝓡 code.env .C) (tables 𝓤 H 𝓜 𝓡 code.env .Λ) #link·step-plain code.function (code.unfolded 𝓤 H 𝓜 𝓡)
+    (step-plain-meets 𝓤 H (𝓖 .A) (givenOf 𝓤 H 𝓜 𝓖) (𝓜 .mem) (𝓡 .run) (tablesOf 𝓤 H 𝓜 (tables 𝓤 H 𝓜 𝓡 code.env))
     (cited 𝓤 H (StepLent 𝓤 H (𝓖 .A) (𝓜 .mem) (𝓡 .run)) 𝓜 𝓡 code.env #link·step-lent step-lent-def.routine code.calls-link·step-lent (step-lent-thm.met 𝓤 H 𝓜 𝓖 𝓡)))
