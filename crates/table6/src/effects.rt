@@ -62,6 +62,8 @@ pub struct Change(
     pub u8,
 );
 
+const NOTHING: Change = Change(K, K, K, K, K, K, K, K, K, K);
+
 // The signals that the table uses. First those that are known beforehand.
 pub const CONGESTION_CEASED: u8 = 0;
 
@@ -207,10 +209,7 @@ pub(crate) fn does(code: u8, f: Facts) -> Met
     ensures { λ r. ⌜ r ≡ follow f (askAt code) ⌝ }
 {
     match code {
-        cells::MESSG => Met::Does(
-            Change(K, K, K, K, K, K, K, K, K, K),
-            say2(DATA, REPORT_PDUT),
-        ),
+        cells::MESSG => Met::Does(NOTHING, say2(DATA, REPORT_PDUT)),
         cells::EMERG => Met::Does(Change(K, K, K, K, UPS_EM, K, K, K, K, K), say0()),
         cells::EMOFF => Met::Does(Change(K, K, K, K, UPS_NM, K, K, K, K, K), say0()),
         cells::STOP3 => Met::Does(
@@ -242,19 +241,16 @@ pub(crate) fn does(code: u8, f: Facts) -> Met
             say3(ESTABLISH_REQUEST, REPORT_ALN, SET_T2),
         ),
         cells::BSNT_ => if f.bsnt {
-            Met::Does(Change(K, K, K, K, K, K, K, K, K, K), say1(BSNT))
+            Met::Does(NOTHING, say1(BSNT))
         } else {
-            Met::Does(
-                Change(K, K, K, K, K, K, K, K, K, K),
-                say1(BSNT_NOT_RETRIEVABLE),
-            )
+            Met::Does(NOTHING, say1(BSNT_NOT_RETRIEVABLE))
         },
-        cells::FSNC_ => Met::Does(Change(K, K, K, K, K, K, K, K, K, K), say1(RETRIEVE_REQUEST)),
-        cells::IGNOR => Met::Does(Change(K, K, K, K, K, K, K, K, K, K), say0()),
+        cells::FSNC_ => Met::Does(NOTHING, say1(RETRIEVE_REQUEST)),
+        cells::IGNOR => Met::Does(NOTHING, say0()),
         cells::EIND1 => if f.lpo {
-            Met::Does(Change(K, K, K, K, K, K, K, K, K, K), say1(RELEASE_PO))
+            Met::Does(NOTHING, say1(RELEASE_PO))
         } else {
-            Met::Does(Change(K, K, K, K, K, K, K, K, K, K), say1(RELEASE_OOS))
+            Met::Does(NOTHING, say1(RELEASE_OOS))
         },
         cells::EIND3 => if f.uu {
             Met::Does(
@@ -262,10 +258,7 @@ pub(crate) fn does(code: u8, f: Facts) -> Met
                 say4(ESTABLISH_RESPONSE, PROVE, RESET_T1, SET_T3),
             )
         } else {
-            Met::Does(
-                Change(K, K, K, K, K, K, K, K, K, K),
-                say2(RELEASE_PE, REPORT_LR_PE),
-            )
+            Met::Does(NOTHING, say2(RELEASE_PE, REPORT_LR_PE))
         },
         cells::ECNF4 => if f.uu {
             Met::Does(
@@ -347,23 +340,14 @@ pub(crate) fn does(code: u8, f: Facts) -> Met
             Change(TO_141, K, K, K, UPS_NM, K, K, K, K, K),
             say3(RELEASE_PE, OUT, REPORT_LR_OOS_PE),
         ),
-        cells::RECOV => Met::Does(
-            Change(K, K, K, K, K, K, K, K, K, K),
-            say2(RECOVER_RESPONSE, REPORT_SREC),
-        ),
-        cells::UDATA => Met::Does(Change(K, K, K, K, K, K, K, K, K, K), say1(REPORT_UDR)),
+        cells::RECOV => Met::Does(NOTHING, say2(RECOVER_RESPONSE, REPORT_SREC)),
+        cells::UDATA => Met::Does(NOTHING, say1(REPORT_UDR)),
         cells::RETRV => if f.long {
-            Met::Does(
-                Change(K, K, K, K, K, K, K, K, K, K),
-                say1(RETRIEVED_MESSAGES),
-            )
+            Met::Does(NOTHING, say1(RETRIEVED_MESSAGES))
         } else {
-            Met::Does(Change(K, K, K, K, K, K, K, K, K, K), say0())
+            Met::Does(NOTHING, say0())
         },
-        cells::RCOMP => Met::Does(
-            Change(K, K, K, K, K, K, K, K, K, K),
-            say1(RETRIEVAL_COMPLETE),
-        ),
+        cells::RCOMP => Met::Does(NOTHING, say1(RETRIEVAL_COMPLETE)),
         cells::PFAIL => Met::Does(
             Change(TO_242, K, K, K, K, K, K, OFF, K, K),
             say2(RELEASE_PNS, RESET_T3),
@@ -405,15 +389,9 @@ pub(crate) fn does(code: u8, f: Facts) -> Met
             Change(TO_242, K, K, K, K, K, K, OFF, K, K),
             say4(RELEASE_PNS, REPORT_LR_CD, STOP, RESET_T3),
         ),
-        cells::CONG_ => Met::Does(
-            Change(K, K, K, K, K, K, K, K, K, K),
-            say2(LINK_CONGESTED, REPORT_CD),
-        ),
-        cells::CEAS5 => Met::Does(Change(K, K, K, K, K, K, K, K, K, K), say1(REPORT_CC)),
-        cells::CEAS_ => Met::Does(
-            Change(K, K, K, K, K, K, K, K, K, K),
-            say2(CONGESTION_CEASED, REPORT_CC),
-        ),
+        cells::CONG_ => Met::Does(NOTHING, say2(LINK_CONGESTED, REPORT_CD)),
+        cells::CEAS5 => Met::Does(NOTHING, say1(REPORT_CC)),
+        cells::CEAS_ => Met::Does(NOTHING, say2(CONGESTION_CEASED, REPORT_CC)),
         cells::T1EX3 => Met::Does(
             Change(TO_222, K, K, K, K, OFF, K, K, K, K),
             say1(ESTABLISH_REQUEST),
