@@ -8,4 +8,5 @@ pub mod Calls
 pub mod Demand
 pub mod Register
 pub mod Witness
+pub mod Timers
 pub mod Pics

@@ -1,4 +1,4 @@
--- The items of A.6.1: a call is taken where no check refuses its event and Table 6 has a cell for it, and turns follow one another. Assumes nothing.
+-- The items of A.6: a call is taken where no check refuses its event and Table 6 has a cell for it, and turns follow one another. Assumes nothing.
 use mathlib.Core.Path.{_≡_, refl, sym, ap, subst, _∙_}
 use mathlib.Core.Bool.{Bool, true, false, cond, not, true≢false}
 use mathlib.Core.List.{List, [], _∷_, _++_, map}
@@ -6,7 +6,7 @@ use Prim.Native.Nat.{ℕ, zero, suc, _+_, _-_, _≤_, _<_}
 use native.Mathlib.Omega.{arith}
 use lib.Dec.{eqb}
 use lib.ListN.{length}
-use borrow.Author.Tests.{eqb-true, eqb-false, ne-eqb, le-leb, lt-leb}
+use borrow.Author.Tests.{eqb-true, eqb-false, ne-eqb, le-ltb, lt-leb}
 use Rattle.unit.specs.declared.Status.{Status}
 use Rattle.unit.specs.declared.Field.{Field}
 use Rattle.unit.specs.declared.Arrived.{Arrived}
@@ -15,14 +15,14 @@ use Rattle.unit.specs.declared.Ups.{Ups}
 use Rattle.unit.specs.Unit.{unitOf, kind, arrived, decoded}
 use Rattle.unit.specs.Proving.{asked, table7}
 use Rattle.table6.specs.declared.State.{State}
-use Rattle.table6.specs.Cell.{T1, T2, T3, Told, cell, Choice, illegal, does, chosen}
+use Rattle.table6.specs.Cell.{Timer, T1, T2, T3, Told, cell, Choice, illegal, does, chosen}
 use Rattle.table6.specs.Rows.{printed}
 use Rattle.table6.specs.Order.{signals}
-use Rattle.table6.specs.Words.{–, OOS, ANS, LR, SR, ALN, PDUT}
-use Rattle.table6.specs.Words.{1/1/1, 1/4/1, 2/1/2, 2/2/2, 2/10/3, 2/10/4, 3/10/5}
-use Rattle.table6.specs.EventCodes.{MESSAGE-FOR-TRANSMISSION, STOP, START, ESTABLISH-indication, ESTABLISH-confirm, RELEASE-indication, DATA-indication, T1-expired, T2-expired, T3-expired}
+use Rattle.table6.specs.Words.{–, OOS, LR, SR, ALN, PDUT}
+use Rattle.table6.specs.Words.{1/1/1, 1/4/1, 2/1/2, 2/2/2, 2/4/2, 2/10/3, 2/10/4, 3/10/5}
+use Rattle.table6.specs.EventCodes.{MESSAGE-FOR-TRANSMISSION, STOP, START, ESTABLISH-indication, ESTABLISH-confirm, RELEASE-indication, RELEASE-confirm, DATA-indication, T1-expired, T2-expired, T3-expired}
 use Rattle.table6.specs.SignalCodes.{code, RECEIVED-MESSAGE, OUT-OF-SERVICE, DATA-request, START-PROVING, STOP-PROVING, SET-T1, SET-T2, SET-T3, RESET-T1, RESET-T2, RESET-T3}
-use Rattle.table6.specs.Table6.{AAL-START-request, AAL-STOP-request, AAL-MESSAGE-FOR-TRANSMISSION-request, AA-ESTABLISH-indication-with-EM-NM, AA-ESTABLISH-confirm-with-EM-NM, AA-RELEASE-indication-from-User, AA-RELEASE-indication-from-SSCOP}
+use Rattle.table6.specs.Table6.{AAL-START-request, AAL-STOP-request, AAL-MESSAGE-FOR-TRANSMISSION-request, AA-ESTABLISH-indication-with-EM-NM, AA-ESTABLISH-confirm-with-EM-NM, AA-RELEASE-indication-from-User, AA-RELEASE-indication-from-SSCOP, AA-RELEASE-confirm}
 use Rattle.table6.specs.Table6.{AA-DATA-indication-with-INS, AA-DATA-indication-with-MU>4, T1-expires, T2-expires, T3-expires-and-C1>0, T3-expires-and-C1=0}
 use Rattle.link.specs.declared.Num.{Num}
 use Rattle.link.specs.declared.Carries.{Carries}
@@ -50,15 +50,17 @@ use Rattle.sscf.proofs.Taken.{Makes, step-accepted}
 use Rattle.sscf.proofs.Untouched.{number-above, refusals-untouched, same-lengths, stays-well-formed, accepted-written}
 use Rattle.sscf.proofs.AllFresh.{fresh-well-formed}
 use Rattle.history.specs.Calls.{Call, fresh, step, signalsIn, World, made, next, run, AfterEachCall}
-use Rattle.history.specs.Pics.{Turn, _⇒_, room, Happens, linkIn, Leads, plain, asking, from-peer, coded, released, message, arriving, release, unit, report, report-uu}
+use Rattle.history.specs.Pics.{Turn, _⇒_, Happens, linkIn, Leads, plain, asking, from-peer, coded, Source, sourced, released, message, arriving, unit, report, report-uu, reported}
 use Rattle.history.specs.Pics.{request, response, units, readies, completes, joins, notes, later, sooner, Brings, Serves, starts, answers, confirms, fails, SNPC1, SNPC2}
-use Rattle.history.specs.Pics.{SNPC3, SNPC4, SNPC5, SNPC6, toUser, toSSCOP, toManagement, toTimers, oneOf, every, SNPC6-1, SNPC7, SNPC8, SNSP1, SNSP2}
+use Rattle.history.specs.Pics.{SNPC3, SNPC4, SNPC5, stops, SNPC6, toUser, toSSCOP, toManagement, toTimers, oneOf, every, SNPC6-1, SNPC7, SNPC8}
+use Rattle.history.specs.Pics.{T1-runs, T2-runs, retries, SNSP1, gives-up, expires, SNSP2}
 use Rattle.history.specs.History.{Mark, history}
 use Rattle.history.specs.Tests.{alive}
 use Rattle.history.proofs.Tested.{alive-there}
 use Rattle.history.proofs.Table.{now}
 use Rattle.history.proofs.Step.{NowIs}
 use Rattle.history.proofs.Calls.{emitted-ones, long-message, made-length, Kept, after-each-call}
+use Rattle.history.proofs.Timers.{timed-each}
 
 -- ONE TURN
 
@@ -79,51 +81,51 @@ record Hands (e : List ℕ) (k c : ℕ) (x : Event) : Type 0 where
   event : eventOf e ≡ x
 
 module _ (w : World) (k c : ℕ) (l : Link) (e : List ℕ) (x : Event) (a : At w (linkAt e) l) (f : Hands e k c x) (r : idle l c ≡ false) (after : Link)
-    (said : List Signal) (s : stepOf l x ≡ Legal after said) where
+    (said : List Signal) (s : stepOf l x ≡ Legal after said) (o : List ℕ) (wide : 4192 ≤ length o) where
   makes : Makes (w .table) e after said
   makes = rw (a .holds, f .event) s
 
-  passes : checks.first (call.checks (w .table) e (length room)) ≡ checks.passed
+  passes : checks.first (call.checks (w .table) e (length o)) ≡ checks.passed
   passes =
-      places.none (call.checks (w .table) e (length room))
-      (a .good, (ap not (f .sound), (f .known, (f .fits, (lt-leb (records (w .table)) (linkAt e) (a .inside), (ap not (a .formed), (rw (a .holds, f .code) r, (ap isIllegal makes, (refl, tt)))))))))
+      places.none (call.checks (w .table) e (length o))
+      (a .good, (ap not (f .sound), (f .known, (f .fits, (lt-leb (records (w .table)) (linkAt e) (a .inside), (ap not (a .formed), (rw (a .holds, f .code) r, (ap isIllegal makes, (le-ltb (length o) 4192 wide, tt)))))))))
 
-  taken-so : stepCall (w .table) e room .answer .refusal ≡ 0
-  taken-so = ap (λ (z : call.Outcome). z .answer .refusal) (step-accepted (w .table) e room passes makes)
+  taken-so : stepCall (w .table) e o .answer .refusal ≡ 0
+  taken-so = ap (λ (z : call.Outcome). z .answer .refusal) (step-accepted (w .table) e o passes makes)
 
-  writes : Written (w .table) e (stepCall (w .table) e room)
-  writes = accepted-written (w .table) e room taken-so
+  writes : Written (w .table) e (stepCall (w .table) e o)
+  writes = accepted-written (w .table) e o taken-so
 
   same : Legal (writes .next) (writes .signals) ≡ Legal after said
   same = sym (writes .gives) ∙ makes
 
-  happens : Happens (w .table) (e ⇒ said)
+  happens : Happens (w .table) o (e ⇒ said)
   happens =
       let q : writes .signals ≡ said = cc same in
-      record { accepted = taken-so; heard = emitted-ones (w .table) e (stepCall (w .table) e room) writes ∙ ap (map (signalOctets (linkAt e) (messageOf e))) q }
+      record { accepted = taken-so; heard = emitted-ones (w .table) e (stepCall (w .table) e o) writes ∙ ap (map (signalOctets (linkAt e) (messageOf e))) q }
 
-  stays : At (next w (step e room)) (linkAt e) after
+  stays : At (next w (step e o)) (linkAt e) after
   unfolding next
   stays =
-      let n = same-lengths (w .table) e room .0 in
+      let n = same-lengths (w .table) e o .0 in
       let q : writes .next ≡ after = cc same in
       record {
         good = rw n (a .good);
         inside = omega (arith, a .inside);
-        formed = stays-well-formed (w .table) e room (linkAt e) (a .formed);
+        formed = stays-well-formed (w .table) e o (linkAt e) (a .formed);
         holds = ap linkOf (writes .packed) ∙ unpacked (writes .next) ∙ q;
       }
 
 -- a turn, and those that follow it
 led : {w : World} {k c : ℕ} {l : Link} {e : List ℕ} {x : Event} {after : Link} {said : List Signal} → At w k l → Hands e k c x → idle l c ≡ false →
-    stepOf l x ≡ Legal after said → (turns : List Turn) (s : State) → (At (next w (step e room)) k after → Leads (next w (step e room)) k turns s) →
-    Leads w k ((e ⇒ said) ∷ turns) s
-led {w} {k} {c} {l} {e} {x} {after} {said} a f r p turns s rest =
+    stepOf l x ≡ Legal after said → (turns : List Turn) (s : State) → ((w′ : World) → At w′ k after → Leads w′ k turns s) → Leads w k ((e ⇒ said) ∷ turns) s
+led {w} {k} {c} {l} {e} {x} {after} {said} a f r p turns s rest o h =
     let b = subst (λ (j : ℕ). At w j l) (sym (f .link)) a in
-    (happens w k c l e x b f r after said p, rest (subst (λ (j : ℕ). At (next w (step e room)) j after) (f .link) (stays w k c l e x b f r after said p)))
+    let w′ = next w (step e o) in
+    (happens w k c l e x b f r after said p o h, rest w′ (subst (λ (j : ℕ). At w′ j after) (f .link) (stays w k c l e x b f r after said p o h)))
 
-ended : {w : World} {k : ℕ} {l : Link} → At w k l → Leads w k [] (l .state)
-ended a = ap (λ (l : Link). l .state) (a .holds)
+ended : {k : ℕ} {l : Link} (w : World) → At w k l → Leads w k [] (l .state)
+ended w a = ap (λ (l : Link). l .state) (a .holds)
 
 -- AFTER EVERY SEQUENCE OF CALLS every link is such
 abbrev Sound : World → Type 0
@@ -176,6 +178,24 @@ brings s turns s′ f buffer n1 h calls k i p =
     let a = at-each buffer n1 h calls k i in
     f w k record { good = a .good; inside = a .inside; formed = a .formed; holds = λ i. with-state (p i) (linkIn w k) }
 
+-- and where T1 or T2 runs
+running : (t : Timer) (s : State) (turns : World → ℕ → List Turn) (s′ : State) → AfterEachCall (λ w k. linkIn w k .state ≡ s → linkIn w k ≡ with-timer t true (linkIn w k)) →
+    ((w : World) (k : ℕ) → At w k (with-state s (with-timer t true (linkIn w k))) → Leads w k (turns w k) s′) → Brings s turns s′
+running t s turns s′ r f buffer n1 h calls k i p =
+    let w = run (made buffer n1) calls in
+    let a = at-each buffer n1 h calls k i in
+    f w k record { good = a .good; inside = a .inside; formed = a .formed; holds = (λ i. with-state (p i) (linkIn w k)) ∙ ap (with-state s) (r buffer n1 h calls k i p) }
+
+running-T1 : (s : State) → T1-runs s ≡ true → AfterEachCall (λ w k. linkIn w k .state ≡ s → linkIn w k ≡ with-timer T1 true (linkIn w k))
+running-T1 s r buffer n1 h calls k i p =
+    let q : linkIn (run (made buffer n1) calls) k .t1 ≡ true = timed-each buffer n1 h calls k i .t1 ∙ ap T1-runs p ∙ r in
+    λ i. with-timer T1 (q i) (linkIn (run (made buffer n1) calls) k)
+
+running-T2 : (s : State) → T2-runs s ≡ true → AfterEachCall (λ w k. linkIn w k .state ≡ s → linkIn w k ≡ with-timer T2 true (linkIn w k))
+running-T2 s r buffer n1 h calls k i p =
+    let q : linkIn (run (made buffer n1) calls) k .t2 ≡ true = timed-each buffer n1 h calls k i .t2 ∙ ap T2-runs p ∙ r in
+    λ i. with-timer T2 (q i) (linkIn (run (made buffer n1) calls) k)
+
 -- EVENTS
 
 hands : (k c p : ℕ) (n : Num) (m : List ℕ) {x : Event} → length m ≤ 4096 → codedAt c p n (length m) (arrived m) ≡ Coded.Of x → misfit c p n (length m) ≡ false →
@@ -214,20 +234,34 @@ unfolding codedAt misfit decoded
 hands-confirm Ups.Normal k = hands k ESTABLISH-confirm (asking Ups.Normal) none [] (omega arith) refl refl
 hands-confirm Ups.Emergency k = hands k ESTABLISH-confirm (asking Ups.Emergency) none [] (omega arith) refl refl
 
-hands-release : (source : ℕ) → source ≤ 1 → (f : Field) (k : ℕ) → Hands (released source f k) k RELEASE-indication (event.ReleaseIndication (coded f) source)
+hands-release : (s : Source) (f : Field) (k : ℕ) → Hands (released s f k) k RELEASE-indication (event.ReleaseIndication (coded f) (sourced s))
 unfolding codedAt misfit decoded
-hands-release source h f k = hands k RELEASE-indication (coded f) (num 0 0 source) [] (omega arith) refl (fitting f) where
-  fitting : (f : Field) → misfit RELEASE-indication (coded f) (num 0 0 source) 0 ≡ false
-  fitting (Field.Named Status.OOS) = rw (le-leb source 1 h)
-  fitting (Field.Named Status.PO) = rw (le-leb source 1 h)
-  fitting (Field.Named Status.INS) = rw (le-leb source 1 h)
-  fitting (Field.Named Status.NM) = rw (le-leb source 1 h)
-  fitting (Field.Named Status.EM) = rw (le-leb source 1 h)
-  fitting (Field.Named Status.ANS) = rw (le-leb source 1 h)
-  fitting (Field.Named Status.MI) = rw (le-leb source 1 h)
-  fitting (Field.Named Status.PE) = rw (le-leb source 1 h)
-  fitting (Field.Named Status.PNS) = rw (le-leb source 1 h)
-  fitting Field.Unnamed = rw (le-leb source 1 h)
+hands-release s f k = hands k RELEASE-indication (coded f) (num 0 0 (sourced s)) [] (omega arith) refl (fitting s f) where
+  fitting : (s : Source) (f : Field) → misfit RELEASE-indication (coded f) (num 0 0 (sourced s)) 0 ≡ false
+  fitting Source.User (Field.Named Status.OOS) = refl
+  fitting Source.User (Field.Named Status.PO) = refl
+  fitting Source.User (Field.Named Status.INS) = refl
+  fitting Source.User (Field.Named Status.NM) = refl
+  fitting Source.User (Field.Named Status.EM) = refl
+  fitting Source.User (Field.Named Status.ANS) = refl
+  fitting Source.User (Field.Named Status.MI) = refl
+  fitting Source.User (Field.Named Status.PE) = refl
+  fitting Source.User (Field.Named Status.PNS) = refl
+  fitting Source.SSCOP (Field.Named Status.OOS) = refl
+  fitting Source.SSCOP (Field.Named Status.PO) = refl
+  fitting Source.SSCOP (Field.Named Status.INS) = refl
+  fitting Source.SSCOP (Field.Named Status.NM) = refl
+  fitting Source.SSCOP (Field.Named Status.EM) = refl
+  fitting Source.SSCOP (Field.Named Status.ANS) = refl
+  fitting Source.SSCOP (Field.Named Status.MI) = refl
+  fitting Source.SSCOP (Field.Named Status.PE) = refl
+  fitting Source.SSCOP (Field.Named Status.PNS) = refl
+  fitting Source.User Field.Unnamed = refl
+  fitting Source.SSCOP Field.Unnamed = refl
+
+hands-release-confirm : (k : ℕ) → Hands (plain RELEASE-confirm k) k RELEASE-confirm event.ReleaseConfirm
+unfolding codedAt misfit
+hands-release-confirm k = hands k RELEASE-confirm 0 none [] (omega arith) refl refl
 
 hands-ins : (n : Num) (k : ℕ) → Hands (arriving (unitOf Status.INS) n k) k DATA-indication (event.Data Arrived.INS n)
 unfolding codedAt misfit unitOf kind arrived
@@ -252,18 +286,52 @@ module _ (l : Link) where
   unfolding stepOf AAL-START-request
   start-disconnecting = refl
 
-  given-up : (f : ℕ) → stepOf (with-state 2/2/2 l) (event.ReleaseIndication f 1) ≡ Legal (with-state 2/1/2 (with-timer T1 true l)) (report SR – – ∷ bare SET-T1 ∷ [])
-  unfolding stepOf AA-RELEASE-indication-from-SSCOP
-  given-up f = refl
+  rejected : (s : Source) (f : Field) →
+      stepOf (with-state 2/2/2 l) (event.ReleaseIndication (coded f) (sourced s)) ≡ Legal (with-state 2/1/2 (with-timer T1 true l)) (reported s f ∷ bare SET-T1 ∷ [])
+  unfolding stepOf AA-RELEASE-indication-from-User AA-RELEASE-indication-from-SSCOP
+  rejected Source.User f = refl
+  rejected Source.SSCOP f = refl
 
-  tries-again : stepOf (with-state 2/1/2 l) event.T1 ≡ Legal (with-state 2/2/2 (with-timer T1 false l)) (request l ∷ [])
+  unproved : (s : Source) (f : Field) →
+      stepOf (with-state 2/10/3 l) (event.ReleaseIndication (coded f) (sourced s))
+      ≡ Legal (with-state 2/1/2 (with-timer T1 true (with-timer T3 false l))) (reported s f ∷ bare STOP-PROVING ∷ bare RESET-T3 ∷ bare SET-T1 ∷ [])
+  unfolding stepOf AA-RELEASE-indication-from-User AA-RELEASE-indication-from-SSCOP
+  unproved Source.User f = refl
+  unproved Source.SSCOP f = refl
+
+  unready : (s : Source) (f : Field) →
+      stepOf (with-state 2/10/4 l) (event.ReleaseIndication (coded f) (sourced s)) ≡ Legal (with-state 2/1/2 (with-timer T1 true l)) (reported s f ∷ bare SET-T1 ∷ [])
+  unfolding stepOf AA-RELEASE-indication-from-User AA-RELEASE-indication-from-SSCOP
+  unready Source.User f = refl
+  unready Source.SSCOP f = refl
+
+  disconnected : stepOf (with-state 2/4/2 l) event.ReleaseConfirm ≡ Legal (with-state 2/1/2 (with-timer T1 true l)) (bare SET-T1 ∷ [])
+  unfolding stepOf AA-RELEASE-confirm
+  disconnected = refl
+
+  tries-again : (k : ℕ) → stepOf (with-state 2/1/2 l) event.T1 ≡ Legal (with-state 2/2/2 (with-timer T1 false l)) (retries l k .signals)
   unfolding stepOf T1-expires
-  tries-again = refl
+  tries-again k = refl
 
-  abandoned : stepOf (with-state 2/2/2 l) event.T2
-      ≡ Legal (with-state 1/4/1 (with-ups Ups.Normal (with-timer T2 false l))) (release Status.ANS ∷ bare OUT-OF-SERVICE ∷ report LR OOS ANS ∷ [])
+  late-waiting : stepOf (with-state 2/1/2 l) event.T2 ≡ Legal (with-state 1/1/1 (with-ups Ups.Normal (with-timer T1 false (with-timer T2 false l)))) (gives-up 2/1/2)
   unfolding stepOf T2-expires
-  abandoned = refl
+  late-waiting = refl
+
+  late-asked : stepOf (with-state 2/2/2 l) event.T2 ≡ Legal (with-state 1/4/1 (with-ups Ups.Normal (with-timer T2 false l))) (gives-up 2/2/2)
+  unfolding stepOf T2-expires
+  late-asked = refl
+
+  late-disconnecting : stepOf (with-state 2/4/2 l) event.T2 ≡ Legal (with-state 1/4/1 (with-ups Ups.Normal (with-timer T2 false l))) (gives-up 2/4/2)
+  unfolding stepOf T2-expires
+  late-disconnecting = refl
+
+  late-proving : stepOf (with-state 2/10/3 l) event.T2 ≡ Legal (with-state 1/4/1 (with-ups Ups.Normal (with-timer T3 false (with-timer T2 false l)))) (gives-up 2/10/3)
+  unfolding stepOf T2-expires
+  late-proving = refl
+
+  late-ready : stepOf (with-state 2/10/4 l) event.T2 ≡ Legal (with-state 1/4/1 (with-ups Ups.Normal (with-timer T2 false l))) (gives-up 2/10/4)
+  unfolding stepOf T2-expires
+  late-ready = refl
 
   out-by-user : (f : Field) →
       stepOf (with-state 3/10/5 l) (event.ReleaseIndication (coded f) 0) ≡ Legal (with-state 1/1/1 (with-ups Ups.Normal l)) (bare OUT-OF-SERVICE ∷ report-uu f ∷ [])
@@ -284,19 +352,17 @@ module _ (l : Link) where
   unfolding stepOf AAL-MESSAGE-FOR-TRANSMISSION-request
   transmitted = refl
 
-  stop-proving : stepOf (with-state 2/10/3 l) event.Stop
-      ≡ Legal (with-state 1/4/1 (with-ups Ups.Normal (with-timer T3 false (with-timer T2 false l)))) (release Status.OOS ∷ report LR OOS – ∷ bare STOP-PROVING ∷ bare RESET-T2 ∷ bare RESET-T3 ∷ [])
+  stop-proving : (k : ℕ) → stepOf (with-state 2/10/3 l) event.Stop ≡ Legal (with-state 1/4/1 (with-ups Ups.Normal (with-timer T3 false (with-timer T2 false l)))) (stops (report LR OOS – ∷ bare STOP-PROVING ∷ bare RESET-T2 ∷ bare RESET-T3 ∷ []) k .signals)
   unfolding stepOf AAL-STOP-request
-  stop-proving = refl
+  stop-proving k = refl
 
-  stop-aligned : stepOf (with-state 2/10/4 l) event.Stop
-      ≡ Legal (with-state 1/4/1 (with-ups Ups.Normal (with-timer T2 false l))) (release Status.OOS ∷ report LR OOS – ∷ bare RESET-T2 ∷ [])
+  stop-aligned : (k : ℕ) → stepOf (with-state 2/10/4 l) event.Stop ≡ Legal (with-state 1/4/1 (with-ups Ups.Normal (with-timer T2 false l))) (stops (report LR OOS – ∷ bare RESET-T2 ∷ []) k .signals)
   unfolding stepOf AAL-STOP-request
-  stop-aligned = refl
+  stop-aligned k = refl
 
-  stop-serving : stepOf (with-state 3/10/5 l) event.Stop ≡ Legal (with-state 1/4/1 (with-ups Ups.Normal l)) (release Status.OOS ∷ report LR OOS – ∷ [])
+  stop-serving : (k : ℕ) → stepOf (with-state 3/10/5 l) event.Stop ≡ Legal (with-state 1/4/1 (with-ups Ups.Normal l)) (stops (report LR OOS – ∷ []) k .signals)
   unfolding stepOf AAL-STOP-request
-  stop-serving = refl
+  stop-serving k = refl
 
   -- in 2/10/3 with T3 running, so many units to go, and the peer's INS unit received or not
   abbrev proving : Bool → ℕ → Link
@@ -349,7 +415,7 @@ units-lead : (k : ℕ) (l : Link) (ins : Bool) (a c : ℕ) (turns : List Turn) (
 units-lead k l ins zero c turns s rest w at = rest w (subst (λ (d : ℕ). At w k (proving l ins d)) (omega arith) at)
 units-lead k l ins (suc a) c turns s rest w at =
     led (subst (λ (d : ℕ). At w k (proving l ins d)) (more a c) at) (hands-t3 k) refl (one-unit l ins (a + c)) (units a k ++ turns) s
-    (λ b. units-lead k l ins a c turns s rest (next w (step (plain T3-expired k) room)) b)
+    (units-lead k l ins a c turns s rest)
   where
     more : (a c : ℕ) → suc a + c ≡ suc (a + c)
     more a c = omega arith
@@ -358,16 +424,15 @@ later-leads : (k : ℕ) (l : Link) (d : ℕ) (n : Num) (w : World) → At w k (p
 later-leads k l d n w at =
     units-lead k (with-lpo false l) false d 0 (readies k ∷ joins n k ∷ []) 3/10/5
     (λ w b. led b (hands-t3 k) refl (aligned l k) (joins n k ∷ []) 3/10/5
-    (λ b. led b (hands-ins n k) refl (peer-ready (with-timer T3 false (with-lpo false (proving l false 0))) n k) [] 3/10/5 ended)) w
+    (λ w b. led b (hands-ins n k) refl (peer-ready (with-timer T3 false (with-lpo false (proving l false 0))) n k) [] 3/10/5 ended)) w
     (subst (λ (c : ℕ). At w k (proving (with-lpo false l) false c)) (omega arith) at)
 
 sooner-leads : (k : ℕ) (l : Link) (a b : ℕ) (n : Num) (w : World) → At w k (proving (with-lpo false l) false (a + b)) → Leads w k (sooner a b n k) 3/10/5
 sooner-leads k l a b n =
     let m = with-bsnt (taken n) l in
     units-lead k (with-lpo false l) false a b (notes n k ∷ units b k ++ completes k ∷ []) 3/10/5
-    (λ w at. let w′ = next w (step (arriving (unitOf Status.INS) n k) room) in
-    led at (hands-ins n k) refl (noted (with-lpo false l) b n k) (units b k ++ completes k ∷ []) 3/10/5
-    (λ at. units-lead k (with-lpo false m) true b 0 (completes k ∷ []) 3/10/5 (λ w at. led at (hands-t3 k) refl (at-once m k) [] 3/10/5 ended) w′
+    (λ w at. led at (hands-ins n k) refl (noted (with-lpo false l) b n k) (units b k ++ completes k ∷ []) 3/10/5
+    (λ w′ at. units-lead k (with-lpo false m) true b 0 (completes k ∷ []) 3/10/5 (λ w at. led at (hands-t3 k) refl (at-once m k) [] 3/10/5 ended) w′
     (subst (λ (c : ℕ). At w′ k (proving (with-lpo false m) true c)) (omega arith) at)))
 
 -- into service after turns that bring the connection up, with C1 decided
@@ -394,14 +459,12 @@ pub snpc1 : SNPC1
 snpc1 =
     record {
       waiting = λ peer. into-service 2/1/2 peer (λ w k. answers peer w k ∷ []) (with-timer T1 false)
-          (λ w k a more rest. led a (hands-indication peer k) refl (answered (with-lpo false (linkIn w k)) peer) more 3/10/5 (rest (next w (step (from-peer ESTABLISH-indication peer k) room))));
-      after-START = λ peer f. into-service 1/1/1 peer (λ w k. starts w k ∷ fails f k ∷ answers peer w k ∷ []) (λ l. with-timer T1 false (with-timer T1 true (with-timer T2 true l)))
+          (λ w k a more rest. led a (hands-indication peer k) refl (answered (with-lpo false (linkIn w k)) peer) more 3/10/5 rest);
+      after-START = λ peer s f. into-service 1/1/1 peer (λ w k. starts w k ∷ fails s f k ∷ answers peer w k ∷ []) (λ l. with-timer T1 false (with-timer T1 true (with-timer T2 true l)))
           (λ w k a more rest. let l = with-timer T2 true (with-lpo false (linkIn w k)) in
-          let w₁ = next w (step (plain START k) room) in
-          let w₂ = next w₁ (step (released 1 f k) room) in
-          led a (hands-start k) refl (start-idle (with-lpo false (linkIn w k))) (fails f k ∷ answers peer w k ∷ more) 3/10/5
-          (λ a. led a (hands-release 1 (omega arith) f k) refl (given-up l (coded f)) (answers peer w k ∷ more) 3/10/5
-          (λ a. led a (hands-indication peer k) refl (answered (with-timer T1 true l) peer) more 3/10/5 (rest (next w₂ (step (from-peer ESTABLISH-indication peer k) room))))));
+          led a (hands-start k) refl (start-idle (with-lpo false (linkIn w k))) (fails s f k ∷ answers peer w k ∷ more) 3/10/5
+          (λ w₁ a. led a (hands-release s f k) refl (rejected l s f) (answers peer w k ∷ more) 3/10/5
+          (λ w₂ a. led a (hands-indication peer k) refl (answered (with-timer T1 true l) peer) more 3/10/5 rest)));
     }
 
 pub snpc2 : SNPC2
@@ -410,10 +473,10 @@ snpc2 peer = brings 2/1/2 (λ w k. answers peer w k ∷ []) 2/10/3 (λ w k a. le
 pub snpc3 : SNPC3
 snpc3 =
     record {
-      by-far-user = λ f. brings 3/10/5 (λ w k. (released 0 f k ⇒ bare OUT-OF-SERVICE ∷ report-uu f ∷ []) ∷ []) 1/1/1
-          (λ w k a. led a (hands-release 0 (omega arith) f k) refl (out-by-user (linkIn w k) f) [] 1/1/1 ended);
-      by-SSCOP = λ f. brings 3/10/5 (λ w k. (released 1 f k ⇒ bare OUT-OF-SERVICE ∷ report SR OOS – ∷ []) ∷ []) 1/1/1
-          (λ w k a. led a (hands-release 1 (omega arith) f k) refl (out-by-SSCOP (linkIn w k) (coded f)) [] 1/1/1 ended);
+      by-far-user = λ f. brings 3/10/5 (λ w k. (released Source.User f k ⇒ bare OUT-OF-SERVICE ∷ report-uu f ∷ []) ∷ []) 1/1/1
+          (λ w k a. led a (hands-release Source.User f k) refl (out-by-user (linkIn w k) f) [] 1/1/1 ended);
+      by-SSCOP = λ f. brings 3/10/5 (λ w k. (released Source.SSCOP f k ⇒ bare OUT-OF-SERVICE ∷ report SR OOS – ∷ []) ∷ []) 1/1/1
+          (λ w k a. led a (hands-release Source.SSCOP f k) refl (out-by-SSCOP (linkIn w k) (coded f)) [] 1/1/1 ended);
     }
 
 pub snpc4 : SNPC4
@@ -427,17 +490,16 @@ pub snpc5 : SNPC5
 snpc5 =
     record {
       asked = λ peer. into-service 2/2/2 peer (λ w k. confirms peer k ∷ []) (λ l. l)
-          (λ w k a more rest. led a (hands-confirm peer k) refl (confirmed (with-lpo false (linkIn w k)) peer k) more 3/10/5 (rest (next w (step (from-peer ESTABLISH-confirm peer k) room))));
+          (λ w k a more rest. led a (hands-confirm peer k) refl (confirmed (with-lpo false (linkIn w k)) peer k) more 3/10/5 rest);
       after-START = λ peer. into-service 1/1/1 peer (λ w k. starts w k ∷ confirms peer k ∷ []) (with-timer T2 true)
-          (λ w k a more rest. let w₁ = next w (step (plain START k) room) in
-          led a (hands-start k) refl (start-idle (with-lpo false (linkIn w k))) (confirms peer k ∷ more) 3/10/5
-          (λ a. led a (hands-confirm peer k) refl (confirmed (with-timer T2 true (with-lpo false (linkIn w k))) peer k) more 3/10/5 (rest (next w₁ (step (from-peer ESTABLISH-confirm peer k) room)))));
+          (λ w k a more rest. led a (hands-start k) refl (start-idle (with-lpo false (linkIn w k))) (confirms peer k ∷ more) 3/10/5
+          (λ w₁ a. led a (hands-confirm peer k) refl (confirmed (with-timer T2 true (with-lpo false (linkIn w k))) peer k) more 3/10/5 rest));
     }
 
 -- a connection is present in three states, by the invariant
 module _ (w : World) (k n1 : ℕ) (h : List Mark) (l : Link) (a : At w k l) (up : alive h ≡ true) where
   abbrev Releases : Type 0
-  Releases = (rest : List Signal) × Leads w k ((plain STOP k ⇒ release Status.OOS ∷ rest) ∷ []) 1/4/1
+  Releases = (rest : List Signal) × Leads w k (stops rest k ∷ []) 1/4/1
 
   none-there : alive h ≡ false → Releases
   none-there v = absurd (true≢false (sym up ∙ v))
@@ -451,9 +513,9 @@ module _ (w : World) (k n1 : ℕ) (h : List Mark) (l : Link) (a : At w k l) (up 
   releases State.S212 p v = none-there v
   releases State.S222 p v = none-there v
   releases State.S242 p v = none-there v
-  releases State.S2103 p v = (_, led (there p) (hands-stop k) refl (stop-proving l) [] 1/4/1 ended)
-  releases State.S2104 p v = (_, led (there p) (hands-stop k) refl (stop-aligned l) [] 1/4/1 ended)
-  releases State.S3105 p v = (_, led (there p) (hands-stop k) refl (stop-serving l) [] 1/4/1 ended)
+  releases State.S2103 p v = (_, led (there p) (hands-stop k) refl (stop-proving l k) [] 1/4/1 ended)
+  releases State.S2104 p v = (_, led (there p) (hands-stop k) refl (stop-aligned l k) [] 1/4/1 ended)
+  releases State.S3105 p v = (_, led (there p) (hands-stop k) refl (stop-serving l k) [] 1/4/1 ended)
 
 pub snpc6 : SNPC6
 snpc6 buffer n1 h calls k i c =
@@ -537,14 +599,42 @@ snpc8 m h i =
     brings 3/10/5 (λ w k. (message m k ⇒ signal DATA-request 0 none Carries.Message ∷ report – – PDUT ∷ []) ∷ []) 3/10/5
     (λ w k a. led a (hands-message m k h i) refl (transmitted (linkIn w k)) [] 3/10/5 ended)
 
+-- THE TIMERS
+
+-- where T1 runs, its expiry asks again
+again : (k : ℕ) (l : Link) (w : World) → At w k (with-state 2/1/2 (with-timer T1 true l)) → Leads w k (retries l k ∷ []) 2/2/2
+again k l w a = led a (hands-t1 k) refl (tries-again (with-timer T1 true l) k) [] 2/2/2 ended
+
 pub snsp1 : SNSP1
-snsp1 f =
-    brings 2/2/2 (λ w k. fails f k ∷ (plain T1-expired k ⇒ request (linkIn w k) ∷ []) ∷ []) 2/2/2
-    (λ w k a. led a (hands-release 1 (omega arith) f k) refl (given-up (linkIn w k) (coded f)) ((plain T1-expired k ⇒ request (linkIn w k) ∷ []) ∷ []) 2/2/2
-    (λ a. led a (hands-t1 k) refl (tries-again (with-timer T1 true (linkIn w k))) [] 2/2/2 ended))
+snsp1 =
+    record {
+      runs = λ buffer n1 h calls k i. timed-each buffer n1 h calls k i .t1;
+      asked = λ s f. brings 2/2/2 (λ w k. fails s f k ∷ retries (linkIn w k) k ∷ []) 2/2/2
+          (λ w k a. led a (hands-release s f k) refl (rejected (linkIn w k) s f) (retries (linkIn w k) k ∷ []) 2/2/2 (again k (linkIn w k)));
+      proving = λ s f. brings 2/10/3 (λ w k. (released s f k ⇒ reported s f ∷ bare STOP-PROVING ∷ bare RESET-T3 ∷ bare SET-T1 ∷ []) ∷ retries (linkIn w k) k ∷ []) 2/2/2
+          (λ w k a. led a (hands-release s f k) refl (unproved (linkIn w k) s f) (retries (linkIn w k) k ∷ []) 2/2/2 (again k (with-timer T3 false (linkIn w k))));
+      ready = λ s f. brings 2/10/4 (λ w k. fails s f k ∷ retries (linkIn w k) k ∷ []) 2/2/2
+          (λ w k a. led a (hands-release s f k) refl (unready (linkIn w k) s f) (retries (linkIn w k) k ∷ []) 2/2/2 (again k (linkIn w k)));
+      own = brings 2/4/2 (λ w k. (plain RELEASE-confirm k ⇒ bare SET-T1 ∷ []) ∷ retries (linkIn w k) k ∷ []) 2/2/2
+          (λ w k a. led a (hands-release-confirm k) refl (disconnected (linkIn w k)) (retries (linkIn w k) k ∷ []) 2/2/2 (again k (linkIn w k)));
+      waiting = running T1 2/1/2 (λ w k. retries (linkIn w k) k ∷ []) 2/2/2 (running-T1 2/1/2 refl) (λ w k a. again k (linkIn w k) w a);
+    }
+
+-- in a state of alignment, where T2 runs
+late : (s s′ : State) → T2-runs s ≡ true → (after : Link → Link) → ((l : Link) → stepOf (with-state s l) event.T2 ≡ Legal (with-state s′ (after l)) (gives-up s)) →
+    Brings s (λ w k. expires s k ∷ []) s′
+late s s′ r after p = running T2 s (λ w k. expires s k ∷ []) s′ (running-T2 s r) (λ w k a. led a (hands-t2 k) refl (p (with-timer T2 true (linkIn w k))) [] s′ ended)
 
 pub snsp2 : SNSP2
 snsp2 =
-    brings 1/1/1 (λ w k. starts w k ∷ (plain T2-expired k ⇒ release Status.ANS ∷ bare OUT-OF-SERVICE ∷ report LR OOS ANS ∷ []) ∷ []) 1/4/1
-    (λ w k a. led a (hands-start k) refl (start-idle (linkIn w k)) ((plain T2-expired k ⇒ release Status.ANS ∷ bare OUT-OF-SERVICE ∷ report LR OOS ANS ∷ []) ∷ []) 1/4/1
-    (λ a. led a (hands-t2 k) refl (abandoned (with-timer T2 true (linkIn w k))) [] 1/4/1 ended))
+    record {
+      runs = λ buffer n1 h calls k i. timed-each buffer n1 h calls k i .t2;
+      after-START = brings 1/1/1 (λ w k. starts w k ∷ expires 2/2/2 k ∷ []) 1/4/1
+          (λ w k a. led a (hands-start k) refl (start-idle (linkIn w k)) (expires 2/2/2 k ∷ []) 1/4/1
+          (λ w₁ a. led a (hands-t2 k) refl (late-asked (with-timer T2 true (linkIn w k))) [] 1/4/1 ended));
+      waiting = late 2/1/2 1/1/1 refl (λ l. with-ups Ups.Normal (with-timer T1 false (with-timer T2 false l))) late-waiting;
+      asked = late 2/2/2 1/4/1 refl (λ l. with-ups Ups.Normal (with-timer T2 false l)) late-asked;
+      disconnecting = late 2/4/2 1/4/1 refl (λ l. with-ups Ups.Normal (with-timer T2 false l)) late-disconnecting;
+      proving = late 2/10/3 1/4/1 refl (λ l. with-ups Ups.Normal (with-timer T3 false (with-timer T2 false l))) late-proving;
+      ready = late 2/10/4 1/4/1 refl (λ l. with-ups Ups.Normal (with-timer T2 false l)) late-ready;
+    }

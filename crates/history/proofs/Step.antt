@@ -59,7 +59,7 @@ unfolding stands alive lawful
 fresh-ok n1 = record { n1-is = refl; ups-is = refl; mps-is = refl; stand-is = refl; now-is = refl; lawful-is = refl }
 
 -- BOOLEANS AND OPERATIONS THAT ARE THE SAME
-beq-eq : (a b : Bool) → Bool·beq a b ≡ true → a ≡ b
+pub beq-eq : (a b : Bool) → Bool·beq a b ≡ true → a ≡ b
 beq-eq true true e = refl
 beq-eq true false e = absurd (false≢true e)
 beq-eq false true e = absurd (false≢true e)

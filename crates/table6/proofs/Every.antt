@@ -8,8 +8,8 @@ use Rattle.table6.specs.declared.State.{State}
 use Rattle.table6.specs.declared.Facts.{Facts}
 use Rattle.table6.specs.Cell.{Act, tell, alter, holds, Cell, Illegal, to, _⨟_, _⨾_, IF_THEN_ELSE_, Row, cell, Choice, illegal, does, after, chosen}
 use Rattle.table6.specs.Rows.{Printed, one, two, printed, Heading, rows, nowhere, heading}
-use Rattle.table6.specs.Every.{Test, in-cell, in-states, in-row, in-printed, in-rows, Every, stop, but-stop}
-use Rattle.table6.specs.Every.{five, one-message, in-service, out-of-service, not-told, release, response, proving}
+use Rattle.table6.specs.Every.{Test, in-cell, in-states, in-row, in-printed, in-rows, Every, stop, but-stop, start, but-start, expiry-of-T2, but-expiry-of-T2}
+use Rattle.table6.specs.Every.{five, one-message, in-service, out-of-service, not-told, release, response, proving, t1-set, t2-set, t2-not-set, t2-reset, given-up}
 use Rattle.table6.proofs.Unfolded.{every-row}
 
 pub at-most-five : Every five
@@ -44,6 +44,26 @@ pub stop-not-told : in-rows not-told stop ≡ true
 unfolding every-row
 stop-not-told = refl
 
+pub t1-set-said : Every t1-set
+unfolding every-row
+t1-set-said = refl
+
+pub start-sets-T2 : in-rows t2-set start ≡ true
+unfolding every-row
+start-sets-T2 = refl
+
+pub others-do-not : in-rows t2-not-set but-start ≡ true
+unfolding every-row
+others-do-not = refl
+
+pub t2-reset-said : in-rows t2-reset but-expiry-of-T2 ≡ true
+unfolding every-row
+t2-reset-said = refl
+
+pub t2-gives-up : in-rows given-up expiry-of-T2 ≡ true
+unfolding every-row
+t2-gives-up = refl
+
 -- a test holds of a choice, behind the actions read so far
 abbrev pub Holds : (List Act → State → Bool) → List Act → Choice → Type 0
 Holds t acts illegal = Unit {0}
@@ -57,7 +77,7 @@ either : (t : List Act → State → Bool) (acts : List Act) (b : Bool) (x y : C
 either t acts true x y p q = p
 either t acts false x y p q = q
 
-of-cell : (t : List Act → State → Bool) (acts : List Act) (c : Cell) (f : Facts) → in-cell t acts c ≡ true → Holds t acts (chosen f c)
+pub of-cell : (t : List Act → State → Bool) (acts : List Act) (c : Cell) (f : Facts) → in-cell t acts c ≡ true → Holds t acts (chosen f c)
 of-cell t acts Illegal f h = tt
 of-cell t acts (to next) f h = rw append-nil h
 of-cell t acts (a ⨟ c) f h = one-more t acts (tell a) (chosen f c) (of-cell t (acts ++ tell a ∷ []) c f h)
@@ -72,7 +92,7 @@ left a b h = and-eq-true-iff a b .0 h .0
 pub right : (a b : Bool) → a && b ≡ true → b ≡ true
 right a b h = and-eq-true-iff a b .0 h .1
 
-of-states : (g : State → Bool) → in-states g ≡ true → (s : State) → g s ≡ true
+pub of-states : (g : State → Bool) → in-states g ≡ true → (s : State) → g s ≡ true
 of-states g h State.S111 = left (g State.S111) _ h
 of-states g h State.S141 = left (g State.S141) _ (right (g State.S111) _ h)
 of-states g h State.S212 = left (g State.S212) _ (right (g State.S141) _ (right (g State.S111) _ h))

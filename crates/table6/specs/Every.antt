@@ -9,12 +9,12 @@ use lib.ListN.{length, take, drop}
 use Rattle.table6.specs.declared.State.{State}
 use Rattle.table6.specs.Words.{1/1/1, 1/4/1, 2/1/2, 2/4/2, 2/10/3, 3/10/5, NM, INS}
 use Rattle.table6.specs.Words as words
-use Rattle.table6.specs.Cell.{Told, Act, tell, alter, Cell, Illegal, to, _⨟_, _⨾_, IF_THEN_ELSE_, Row, cell}
-use Rattle.table6.specs.SignalCodes.{code, IN-SERVICE, OUT-OF-SERVICE, RELEASE-request, ESTABLISH-response, START-PROVING}
+use Rattle.table6.specs.Cell.{T2, end, Told, Act, tell, alter, Cell, Illegal, to, _⨟_, _⨾_, IF_THEN_ELSE_, Row, cell}
+use Rattle.table6.specs.SignalCodes.{code, IN-SERVICE, OUT-OF-SERVICE, RELEASE-request, ESTABLISH-response, START-PROVING, SET-T1, SET-T2, RESET-T2}
 use Rattle.table6.specs.Order.{signals}
 use Rattle.table6.specs.Stored.{place}
-use Rattle.table6.specs.Table6.{AAL-STOP-request}
-use Rattle.table6.specs.Rows.{Printed, one, two, Heading, plain, rows}
+use Rattle.table6.specs.Table6.{AAL-STOP-request, AAL-START-request, T2-expires}
+use Rattle.table6.specs.Rows.{Printed, one, two, Heading, plain, behind, rows}
 
 -- A test of a state, the actions of a cell there and the state after.
 abbrev pub Test : Type 0
@@ -46,12 +46,24 @@ in-rows t (h ∷ hs) = in-printed t (h .row) && in-rows t hs
 abbrev pub Every : Test → Type 0
 Every t = in-rows t rows ≡ true
 
--- The user's STOP, and all rows but it.
+-- The user's STOP, and all rows but it; his START; the expiry of T2.
 abbrev pub stop : List Heading
 stop = plain AAL-STOP-request ∷ []
 
 abbrev pub but-stop : List Heading
 but-stop = take 3 rows ++ drop 4 rows
+
+abbrev pub start : List Heading
+start = plain AAL-START-request ∷ []
+
+abbrev pub but-start : List Heading
+but-start = take 4 rows ++ drop 5 rows
+
+abbrev pub expiry-of-T2 : List Heading
+expiry-of-T2 = behind (end T2) T2-expires ∷ []
+
+abbrev pub but-expiry-of-T2 : List Heading
+but-expiry-of-T2 = take 32 rows ++ drop 33 rows
 
 -- It carries the event's own message: one that goes to the user, or data that is no unit.
 abbrev pub own-message : Told → Bool
@@ -131,3 +143,24 @@ response s acts next = same (says ESTABLISH-response acts) (is s 2/1/2 && is nex
 -- Proving starts exactly where 2/10/3 is entered.
 abbrev pub proving : Test
 proving s acts next = same (says START-PROVING acts) (is next 2/10/3 && not (is s 2/10/3))
+
+-- T1 is set exactly where 2/1/2 is entered.
+abbrev pub t1-set : Test
+t1-set s acts next = same (says SET-T1 acts) (is next 2/1/2 && not (is s 2/1/2))
+
+-- T2 is set by START, always, and by nothing else.
+abbrev pub t2-set : Test
+t2-set s acts next = says SET-T2 acts
+
+abbrev pub t2-not-set : Test
+t2-not-set s acts next = not (says SET-T2 acts)
+
+-- T2 is reset exactly where alignment, the states 2/x, is left, but for its own expiry, which always leaves them, out of service.
+abbrev pub aligning : State → Bool
+aligning s = not (out s || is s 3/10/5)
+
+abbrev pub t2-reset : Test
+t2-reset s acts next = same (says RESET-T2 acts) (aligning s && not (aligning next))
+
+abbrev pub given-up : Test
+given-up s acts next = aligning s && (out next && (says OUT-OF-SERVICE acts && not (says RESET-T2 acts)))
