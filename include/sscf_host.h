@@ -1,10 +1,10 @@
 /*
  * sscf_host.h: small help for a host of sscf.h, which is the manual.
  *
- * The places of a record's fields by name, events written, signals taken one by one, and every code
- * as a string. All of it is inline, in C99 and in C++: there is nothing to link, nothing is
- * allocated or kept, and of the C library only memmove is called. The library does not need it, and
- * nothing here is part of what is proved.
+ * The places of a record's fields by name, a link's state, events written, signals taken one by one,
+ * and every code as a string. All of it is inline, in C99 and in C++: there is nothing to link,
+ * nothing is allocated or kept, and of the C library only memmove is called. The library does not
+ * need it, and nothing here is part of what is proved.
  *
  *     uint8_t event[SSCF_HEAD_OCTETS];
  *     size_t octets = sscf_put_bare_event(event, sizeof event, 2, SSCF_EVENT_START);
@@ -79,6 +79,18 @@ static inline void sscf_put_24(uint8_t *at, uint32_t value)
 {
     at[0] = (uint8_t)(value >> 16);
     sscf_put_16(at + 1, value);
+}
+
+/* LINKS */
+
+/*
+ * The state of a link, SSCF_STATE_..., as its record in the table says it: SSCF_STATE_IN_SERVICE
+ * exactly if the link is in service. The link is one of the table's. No other octet is looked at, so
+ * of a record that sscf_step refuses as ill-formed it tells nothing.
+ */
+static inline uint32_t sscf_link_state(const uint8_t *table, uint32_t link)
+{
+    return table[SSCF_LINK_OCTETS * link + SSCF_LINK_AT_STATE];
 }
 
 /* EVENTS */
