@@ -25,10 +25,7 @@
  *
  * Of the C library it needs memmove and nothing else; a later version may also need memcpy, memset,
  * memcmp or bcmp. A step takes at most 256 octets of stack, memmove's own not counted, the other
- * calls their return address alone. (In 0.1.1 a step takes 200: by the archive's listing six
- * registers saved, 136 octets and two return addresses, and as many were seen on a painted stack,
- * with every event in every state. glibc's memmove takes none, but where it is bound lazily its
- * first call runs the dynamic loader, which took 3 KB there.)
+ * calls their return address alone.
  *
  * HOW A LINK COMES INTO SERVICE
  *
@@ -110,6 +107,10 @@
  * - Q.2140 wants no link to enter proving during local congestion. On START_PROVING for a link
  *   that is congested, hand in CONGESTION for it (again): this gives the connection up, and the
  *   link tries again after T1.
+ *
+ * Where the stack is short: in 0.1.1 a step takes 200 octets, by the archive's listing and on a
+ * painted stack with every event in every state. glibc's memmove takes none, but where it is bound
+ * lazily its first call runs the dynamic loader, which took 3 KB there.
  */
 #ifndef SSCF_H
 #define SSCF_H
