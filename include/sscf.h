@@ -205,7 +205,9 @@ enum sscf_ups { SSCF_UPS_NORMAL = 0, SSCF_UPS_EMERGENCY = 1 };
  * Proving takes n1 + 1 expiries of T3, the last for the INS unit. They must fit into T2, which runs
  * from START on, at both ends, with time left for the connection itself. Else T2 ends every
  * attempt: with n1 = 1000 and T2 of 30 seconds, a link that proves with T3 of 31 ms is never in
- * service, nor one with 30.
+ * service, nor one with 30. What is left of T2 is also how far apart the STARTs of the two ends may
+ * lie, since T2 of the first runs from its own: with T3 of 13 ms not quite 17 seconds. Else the
+ * first is given up, and its user has to start it again.
  */
 enum sscf_timer {
     SSCF_TIMER_T1 = 1, /* from a failed attempt at a connection to the next one: 5 seconds */
