@@ -387,7 +387,10 @@ enum sscf_report_reason { /* octet 8 */
  *
  * 1 to 6 and 9 are faults of the host: a wrong length, an event written wrong, a record that
  * something else wrote into. The same call is refused again, so they are to be logged and mended.
- * After 6 the link is lost, until its record comes back from a copy or the table is made anew.
+ * After 6 the link is lost. A copy of its record brings it back if it was taken after the last
+ * event that was accepted for the link; an older one may say in service of a connection that is
+ * gone. Without one, release the connections and make the table anew. Of a table that something
+ * else wrote into, what is proved of links in service no longer speaks, until the next sscf_fresh.
  *
  * 7 and 8 can be its faults too, as when it starts a link twice, but they also come where there is
  * none, from events that crossed: one was on its way when another, or a signal, overtook it. Such
