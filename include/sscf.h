@@ -99,7 +99,11 @@
  *   tells the two apart.
  * - What SSCOP said before a RELEASE_REQUEST reached it is not handed in after the next START. In
  *   state 4 an ESTABLISH_CONFIRM or RELEASE_INDICATION of the connection before would be taken for
- *   one of the present connection.
+ *   one of the present connection. A host with a queue takes SSCOP's events 16 to 22 of that link
+ *   out of it as it hands the RELEASE_REQUEST on.
+ * - SSCOP gives no RELEASE_CONFIRM for a RELEASE_REQUEST in answer to ESTABLISH_INDICATION: this
+ *   turns the peer's call down, and the link, in state 1 or 3, awaits none. Later, in state 2 or 5,
+ *   it would be taken for another's.
  * - Nothing but sscf_fresh and sscf_step writes into the table, and they only as their table. Each
  *   call is lent the whole of it, from the first record to the last, and no octet of it lies in the
  *   out of any call, one on another table among them. A record that came there in another way is
@@ -394,8 +398,8 @@ enum sscf_report_reason { /* octet 8 */
  *
  * 7 and 8 can be its faults too, as when it starts a link twice, but they also come where there is
  * none, from events that crossed: one was on its way when another, or a signal, overtook it. Such
- * an event is dropped, and the link goes on. Q.2140 assumes that this does not happen (clause 12).
- * Seen with this library:
+ * an event is dropped, and the link goes on. Q.2140 assumes of the boundary with SSCOP, and of no
+ * other, that nothing crosses there (8.2 c, clause 12 item 3). Seen with this library:
  *
  * - A timer's expiry, as the timer is reset (7): T1's as the peer connects, T2's as the link comes
  *   into service, T3's as the connection is given up.
@@ -404,12 +408,16 @@ enum sscf_report_reason { /* octet 8 */
  * - Two ends that connect at once: ESTABLISH_INDICATION comes in state 4. SSCOP's ESTABLISH_CONFIRM
  *   is accepted after it; should none come, the link waits until T2 expires.
  * - What SSCOP still has to say when the link, in state 2 or 5, has given the connection up:
- *   ESTABLISH_CONFIRM, RELEASE_INDICATION, DATA, RESYNC, RECOVER. RELEASE_CONFIRM is accepted
- *   after it.
- * - What the user asks before it has heard: MESSAGE_FOR_TRANSMISSION and STOP as the link leaves
- *   service, EMERGENCY and EMERGENCY_CEASES as it comes into service. A message that is refused has
- *   not been sent, and is still the user's.
- * - PROVING_UNSUCCESSFUL from layer management, as proving ends.
+ *   ESTABLISH_CONFIRM, RELEASE_INDICATION, DATA, RESYNC, RECOVER; in state 2 also the peer's call,
+ *   ESTABLISH_INDICATION, that was on its way at START and STOP. RELEASE_CONFIRM is accepted after
+ *   it.
+ * - A call that the link turned down, in state 1 or 3, as the peer gave it up: RELEASE_INDICATION.
+ *   A RELEASE_CONFIRM there is SSCOP's fault, see above.
+ * - What the user asks before it has heard: MESSAGE_FOR_TRANSMISSION as the link leaves service,
+ *   STOP as it does so or is given up by T2, EMERGENCY and EMERGENCY_CEASES as it comes into
+ *   service. A message that is refused has not been sent, and is still the user's.
+ * - PROVING_UNSUCCESSFUL from layer management, as proving ends, and CONGESTION_CEASED in state 6,
+ *   where congestion ends just as the connection comes up.
  * - RETRIEVE and RETRIEVE_COMPLETE after the next START. These messages are lost to the user, which
  *   had better wait for RETRIEVAL_COMPLETE.
  */
