@@ -1,11 +1,13 @@
 ## make              set-up, proof and library, first results to look at, a short story's trace and chart among them, and two C programs over the
 ##                   library: a host to copy, and the test of conformance
+## make library      set-up, proof and library alone
 ## make test         the gate: ends with 'N passed, 0 failed'
 ## make bench        what a step costs against a second machine, in instructions and, on x86-64, in time
 ## make install      the library for C, its headers and a pkg-config file, below PREFIX (/usr/local), the archive into LIBDIR (PREFIX/lib);
 ##                   DESTDIR goes before both, for packages
 ## make uninstall    takes them away again
 ## make clean        removes target/, all that was made
+## make help         these lines
 .POSIX:
 .PHONY: all help setup library archive look example install uninstall bench test clean
 

@@ -8,6 +8,7 @@
 
 #include <stdio.h>
 #include <stdlib.h>
+#include <string.h>
 
 enum { LINKS = 2, N1 = 3 };
 
@@ -24,7 +25,7 @@ static void fail(const char *why)
 
 struct event {
     uint8_t record[SSCF_HEAD_OCTETS + SSCF_MESSAGE_OCTETS_MAX];
-    size_t octets;
+    size_t octets; /* 0 if it was taken back */
 };
 
 enum { QUEUE = 16 };
@@ -40,7 +41,25 @@ static void post(unsigned link, unsigned code, unsigned parameter, uint32_t numb
         fail("the queue is full");
     event->octets = sscf_put_event(event->record, sizeof event->record, link, code, parameter,
                                    number, message, length);
+    if (event->octets == 0)
+        fail("an event that cannot be written");
     waiting++;
+}
+
+/* Takes back what SSCOP has said of a link's connection, which is given up. After the next START
+ * it would be taken for the next connection's, as sscf.h warns. */
+static void forget_connection(unsigned link)
+{
+    unsigned n;
+
+    for (n = 0; n < waiting; n++) {
+        struct event *event = &queue[(first + n) % QUEUE];
+        unsigned code = event->record[SSCF_HEAD_AT_CODE];
+
+        if (sscf_get_16(event->record + SSCF_HEAD_AT_LINK) == link &&
+            code >= SSCF_EVENT_ESTABLISH_INDICATION && code <= SSCF_EVENT_RECOVER)
+            event->octets = 0;
+    }
 }
 
 /* The timers of every link: when each is due, 0 if it does not run. T1 and T2 are Q.2140's, and T3
@@ -81,7 +100,7 @@ static void connect_ends(void)
     }
 }
 
-static void sscop(unsigned link, const uint8_t *signal)
+static void sscop(unsigned link, unsigned cause, const uint8_t *signal)
 {
     unsigned peer = 1 - link, field = signal[SSCF_HEAD_AT_PARAMETER];
 
@@ -106,7 +125,8 @@ static void sscop(unsigned link, const uint8_t *signal)
         }
         break;
     case SSCF_SIGNAL_RELEASE_REQUEST:
-        if (ends[link].phase != IDLE) /* else it turns a call down, which nobody confirms */
+        forget_connection(link);
+        if (cause != SSCF_EVENT_ESTABLISH_INDICATION) /* that turns a call down: no confirm */
             post(link, SSCF_EVENT_RELEASE_CONFIRM, 0, 0, NULL, 0);
         if (ends[peer].phase != IDLE)
             post(peer, SSCF_EVENT_RELEASE_INDICATION, field, SSCF_SOURCE_USER, NULL, 0);
@@ -120,8 +140,9 @@ static void sscop(unsigned link, const uint8_t *signal)
     }
 }
 
-/* A signal goes to whom it is for. There is no layer management here to hear its own. */
-static void hand_on(unsigned link, const uint8_t *signal)
+/* A signal goes to whom it is for, with the code of the event that it follows from. There is no
+ * layer management here to hear its own. */
+static void hand_on(unsigned link, unsigned cause, const uint8_t *signal)
 {
     unsigned code = signal[SSCF_HEAD_AT_CODE];
 
@@ -130,7 +151,7 @@ static void hand_on(unsigned link, const uint8_t *signal)
     else if (code >= SSCF_SIGNAL_RESET_T1 && code <= SSCF_SIGNAL_RESET_T3)
         due[TIMERS * link + code - SSCF_SIGNAL_RESET_T1] = 0;
     else if (code >= SSCF_SIGNAL_ESTABLISH_REQUEST && code <= SSCF_SIGNAL_RETRIEVE_REQUEST)
-        sscop(link, signal);
+        sscop(link, cause, signal);
     else if (code == SSCF_SIGNAL_RECEIVED_MESSAGE)
         printf("          received: %.*s\n", (int)sscf_get_16(signal + SSCF_HEAD_AT_LENGTH),
                (const char *)signal + SSCF_HEAD_OCTETS);
@@ -141,7 +162,7 @@ static void hand_on(unsigned link, const uint8_t *signal)
 static void keep_register(unsigned link)
 {
     static int registered[LINKS];
-    int in_service = table[SSCF_LINK_OCTETS * link + SSCF_LINK_AT_STATE] == SSCF_STATE_IN_SERVICE;
+    int in_service = sscf_link_state(table, link) == SSCF_STATE_IN_SERVICE;
 
     if (in_service != registered[link])
         printf("Link %u, %s\n", link, in_service ? "in service" : "out of service");
@@ -176,7 +197,7 @@ static void step(const uint8_t *event, size_t octets)
         fail(sscf_refusal_name(answer.refusal));
     for (signal = sscf_first_signal(out, answer); signal != NULL;
          signal = sscf_next_signal(out, answer, signal))
-        hand_on(link, signal);
+        hand_on(link, event[SSCF_HEAD_AT_CODE], signal);
     keep_register(link);
 }
 
@@ -199,11 +220,20 @@ static const struct {
 } story[] = {
     {0, 0, SSCF_EVENT_START, ""}, /* too early: link 1 is not started */
     {2000, 1, SSCF_EVENT_START, ""},
-    {3000, 0, SSCF_EVENT_MESSAGE_FOR_TRANSMISSION, "IAM: call 1, to 4711"},
+    {3000, 0, SSCF_EVENT_MESSAGE_FOR_TRANSMISSION, "IAM 4711"},
     {4000, 1, SSCF_EVENT_RELEASE, ""},
-    {5000, 0, SSCF_EVENT_FORCE_EMERGENCY, ""}, /* back without proving, and both at once */
+    {5000, 0, SSCF_EVENT_EMERGENCY, ""}, /* back without proving, and both at once */
     {5000, 0, SSCF_EVENT_START, ""},
     {5000, 1, SSCF_EVENT_START, ""},
+    {6000, 1, SSCF_EVENT_STOP, ""},
+    /* Link 1 is in haste when link 0 first calls, and no more when it calls again: what SSCOP said
+     * of the first connection must not spare the second one its proving. */
+    {7000, 1, SSCF_EVENT_EMERGENCY, ""},
+    {7000, 0, SSCF_EVENT_START, ""},
+    {7000, 1, SSCF_EVENT_START, ""},
+    {7000, 0, SSCF_EVENT_STOP, ""},
+    {7000, 1, SSCF_EVENT_EMERGENCY_CEASES, ""},
+    {7000, 0, SSCF_EVENT_START, ""},
 };
 
 enum { ACTS = sizeof story / sizeof *story };
@@ -220,7 +250,8 @@ int main(void)
         int timer = next_timer();
 
         if (waiting > 0) {
-            step(queue[first].record, queue[first].octets);
+            if (queue[first].octets != 0)
+                step(queue[first].record, queue[first].octets);
             first = (first + 1) % QUEUE;
             waiting--;
         } else if (act < ACTS && (timer < 0 || story[act].at <= due[timer])) {

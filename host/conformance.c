@@ -705,6 +705,19 @@ static void crossings(void)
         {1, 0, {{SSCF_EVENT_START, 0, 0, 4},
                 {SSCF_EVENT_ESTABLISH_INDICATION, SSCF_STATUS_NM, 8, 4},
                 {SSCF_EVENT_T2_EXPIRED, 0, 0, 2}}},
+        {1, 0, {{SSCF_EVENT_START, 0, 0, 4},
+                {SSCF_EVENT_STOP, 0, 0, 2},
+                {SSCF_EVENT_ESTABLISH_INDICATION, SSCF_STATUS_NM, 8, 2},
+                {SSCF_EVENT_RELEASE_CONFIRM, 0, 0, 1}}},
+        /* a call turned down: its caller gives it up, and SSCOP confirms what it should not */
+        {1, 0, {{SSCF_EVENT_ESTABLISH_INDICATION, SSCF_STATUS_NM, 0, 1},
+                {SSCF_EVENT_RELEASE_INDICATION, SSCF_STATUS_OOS, 8, 1},
+                {SSCF_EVENT_RELEASE_CONFIRM, 0, 8, 1}}},
+        {1, 0, {{SSCF_EVENT_START, 0, 0, 4},
+                {SSCF_EVENT_RELEASE_INDICATION, SSCF_STATUS_OOS, 0, 3},
+                {SSCF_EVENT_ESTABLISH_INDICATION, SSCF_STATUS_OOS, 0, 3},
+                {SSCF_EVENT_RELEASE_INDICATION, SSCF_STATUS_OOS, 8, 3},
+                {SSCF_EVENT_RELEASE_CONFIRM, 0, 8, 3}}},
         /* what SSCOP still says of a connection given up */
         {4, 2, {{SSCF_EVENT_STOP, 0, 0, 2},
                 {SSCF_EVENT_ESTABLISH_CONFIRM, SSCF_STATUS_NM, 8, 2},
@@ -728,12 +741,19 @@ static void crossings(void)
         {8, 0, {{SSCF_EVENT_RELEASE_INDICATION, SSCF_STATUS_OOS, 0, 1},
                 {SSCF_EVENT_MESSAGE_FOR_TRANSMISSION, 0, 8, 1},
                 {SSCF_EVENT_STOP, 0, 8, 1}}},
+        {1, 0, {{SSCF_EVENT_START, 0, 0, 4},
+                {SSCF_EVENT_T2_EXPIRED, 0, 0, 2},
+                {SSCF_EVENT_STOP, 0, 8, 2}}},
         {7, 2, {{SSCF_EVENT_DATA, 0, 0, 8},
                 {SSCF_EVENT_EMERGENCY, 0, 8, 8},
                 {SSCF_EVENT_EMERGENCY_CEASES, 0, 8, 8}}},
         /* management that has not heard yet */
         {6, 2 + 4, {{SSCF_EVENT_T3_EXPIRED, 0, 0, 7}, {SSCF_EVENT_PROVING_UNSUCCESSFUL, 0, 8, 7}}},
         {6, 2 + 4, {{SSCF_EVENT_STOP, 0, 0, 2}, {SSCF_EVENT_PROVING_UNSUCCESSFUL, 0, 8, 2}}},
+        {1, 0, {{SSCF_EVENT_START, 0, 0, 4},
+                {SSCF_EVENT_CONGESTION, 1, 0, 4},
+                {SSCF_EVENT_ESTABLISH_CONFIRM, SSCF_STATUS_NM, 0, 6},
+                {SSCF_EVENT_CONGESTION_CEASED, 0, 8, 6}}},
         /* a retrieval that goes on after the next START */
         {1, 0, {{SSCF_EVENT_RETRIEVAL_REQUEST_AND_FSNC, 0, 0, 1},
                 {SSCF_EVENT_START, 0, 0, 4},
@@ -746,7 +766,11 @@ static void crossings(void)
                 {SSCF_EVENT_ESTABLISH_CONFIRM, SSCF_STATUS_NM, 0, 6}}},
         {8, 0, {{SSCF_EVENT_STOP, 0, 0, 2},
                 {SSCF_EVENT_START, 0, 0, 4},
-                {SSCF_EVENT_RELEASE_INDICATION, SSCF_STATUS_OOS, 0, 3}}}
+                {SSCF_EVENT_RELEASE_INDICATION, SSCF_STATUS_OOS, 0, 3}}},
+        {1, 0, {{SSCF_EVENT_ESTABLISH_INDICATION, SSCF_STATUS_NM, 0, 1}, /* turned down */
+                {SSCF_EVENT_START, 0, 0, 4},
+                {SSCF_EVENT_STOP, 0, 0, 2},
+                {SSCF_EVENT_RELEASE_CONFIRM, 0, 0, 1}}}
     };
     size_t run, i;
 

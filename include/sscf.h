@@ -25,10 +25,7 @@
  *
  * Of the C library it needs memmove and nothing else; a later version may also need memcpy, memset,
  * memcmp or bcmp. A step takes at most 256 octets of stack, memmove's own not counted, the other
- * calls their return address alone. (In 0.1.1 a step takes 200: by the archive's listing six
- * registers saved, 136 octets and two return addresses, and as many were seen on a painted stack,
- * with every event in every state. glibc's memmove takes none, but where it is bound lazily its
- * first call runs the dynamic loader, which took 3 KB there.)
+ * calls their return address alone.
  *
  * HOW A LINK COMES INTO SERVICE
  *
@@ -102,7 +99,11 @@
  *   tells the two apart.
  * - What SSCOP said before a RELEASE_REQUEST reached it is not handed in after the next START. In
  *   state 4 an ESTABLISH_CONFIRM or RELEASE_INDICATION of the connection before would be taken for
- *   one of the present connection.
+ *   one of the present connection. A host with a queue takes SSCOP's events 16 to 22 of that link
+ *   out of it as it hands the RELEASE_REQUEST on.
+ * - SSCOP gives no RELEASE_CONFIRM for a RELEASE_REQUEST in answer to ESTABLISH_INDICATION: this
+ *   turns the peer's call down, and the link, in state 1 or 3, awaits none. Later, in state 2 or 5,
+ *   it would be taken for another's.
  * - Nothing but sscf_fresh and sscf_step writes into the table, and they only as their table. Each
  *   call is lent the whole of it, from the first record to the last, and no octet of it lies in the
  *   out of any call, one on another table among them. A record that came there in another way is
@@ -110,6 +111,10 @@
  * - Q.2140 wants no link to enter proving during local congestion. On START_PROVING for a link
  *   that is congested, hand in CONGESTION for it (again): this gives the connection up, and the
  *   link tries again after T1.
+ *
+ * Where the stack is short: in 0.1.1 a step takes 200 octets, by the archive's listing and on a
+ * painted stack with every event in every state. glibc's memmove takes none, but where it is bound
+ * lazily its first call runs the dynamic loader, which took 3 KB there.
  */
 #ifndef SSCF_H
 #define SSCF_H
@@ -204,7 +209,9 @@ enum sscf_ups { SSCF_UPS_NORMAL = 0, SSCF_UPS_EMERGENCY = 1 };
  * Proving takes n1 + 1 expiries of T3, the last for the INS unit. They must fit into T2, which runs
  * from START on, at both ends, with time left for the connection itself. Else T2 ends every
  * attempt: with n1 = 1000 and T2 of 30 seconds, a link that proves with T3 of 31 ms is never in
- * service, nor one with 30.
+ * service, nor one with 30. What is left of T2 is also how far apart the STARTs of the two ends may
+ * lie, since T2 of the first runs from its own: with T3 of 13 ms not quite 17 seconds. Else the
+ * first is given up, and its user has to start it again.
  */
 enum sscf_timer {
     SSCF_TIMER_T1 = 1, /* from a failed attempt at a connection to the next one: 5 seconds */
@@ -384,12 +391,15 @@ enum sscf_report_reason { /* octet 8 */
  *
  * 1 to 6 and 9 are faults of the host: a wrong length, an event written wrong, a record that
  * something else wrote into. The same call is refused again, so they are to be logged and mended.
- * After 6 the link is lost, until its record comes back from a copy or the table is made anew.
+ * After 6 the link is lost. A copy of its record brings it back if it was taken after the last
+ * event that was accepted for the link; an older one may say in service of a connection that is
+ * gone. Without one, release the connections and make the table anew. Of a table that something
+ * else wrote into, what is proved of links in service no longer speaks, until the next sscf_fresh.
  *
  * 7 and 8 can be its faults too, as when it starts a link twice, but they also come where there is
  * none, from events that crossed: one was on its way when another, or a signal, overtook it. Such
- * an event is dropped, and the link goes on. Q.2140 assumes that this does not happen (clause 12).
- * Seen with this library:
+ * an event is dropped, and the link goes on. Q.2140 assumes of the boundary with SSCOP, and of no
+ * other, that nothing crosses there (8.2 c, clause 12 item 3). Seen with this library:
  *
  * - A timer's expiry, as the timer is reset (7): T1's as the peer connects, T2's as the link comes
  *   into service, T3's as the connection is given up.
@@ -398,12 +408,16 @@ enum sscf_report_reason { /* octet 8 */
  * - Two ends that connect at once: ESTABLISH_INDICATION comes in state 4. SSCOP's ESTABLISH_CONFIRM
  *   is accepted after it; should none come, the link waits until T2 expires.
  * - What SSCOP still has to say when the link, in state 2 or 5, has given the connection up:
- *   ESTABLISH_CONFIRM, RELEASE_INDICATION, DATA, RESYNC, RECOVER. RELEASE_CONFIRM is accepted
- *   after it.
- * - What the user asks before it has heard: MESSAGE_FOR_TRANSMISSION and STOP as the link leaves
- *   service, EMERGENCY and EMERGENCY_CEASES as it comes into service. A message that is refused has
- *   not been sent, and is still the user's.
- * - PROVING_UNSUCCESSFUL from layer management, as proving ends.
+ *   ESTABLISH_CONFIRM, RELEASE_INDICATION, DATA, RESYNC, RECOVER; in state 2 also the peer's call,
+ *   ESTABLISH_INDICATION, that was on its way at START and STOP. RELEASE_CONFIRM is accepted after
+ *   it.
+ * - A call that the link turned down, in state 1 or 3, as the peer gave it up: RELEASE_INDICATION.
+ *   A RELEASE_CONFIRM there is SSCOP's fault, see above.
+ * - What the user asks before it has heard: MESSAGE_FOR_TRANSMISSION as the link leaves service,
+ *   STOP as it does so or is given up by T2, EMERGENCY and EMERGENCY_CEASES as it comes into
+ *   service. A message that is refused has not been sent, and is still the user's.
+ * - PROVING_UNSUCCESSFUL from layer management, as proving ends, and CONGESTION_CEASED in state 6,
+ *   where congestion ends just as the connection comes up.
  * - RETRIEVE and RETRIEVE_COMPLETE after the next START. These messages are lost to the user, which
  *   had better wait for RETRIEVAL_COMPLETE.
  */

@@ -1,10 +1,10 @@
 /*
  * sscf_host.h: small help for a host of sscf.h, which is the manual.
  *
- * The places of a record's fields by name, events written, signals taken one by one, and every code
- * as a string. All of it is inline, in C99 and in C++: there is nothing to link, nothing is
- * allocated or kept, and of the C library only memmove is called. The library does not need it, and
- * nothing here is part of what is proved.
+ * The places of a record's fields by name, a link's state, events written, signals taken one by
+ * one, and every code as a string. All of it is inline, in C99 and in C++: there is nothing to
+ * link, nothing is allocated or kept, and of the C library only memmove is called. The library does
+ * not need it, and nothing here is part of what is proved.
  *
  *     uint8_t event[SSCF_HEAD_OCTETS];
  *     size_t octets = sscf_put_bare_event(event, sizeof event, 2, SSCF_EVENT_START);
@@ -81,6 +81,18 @@ static inline void sscf_put_24(uint8_t *at, uint32_t value)
     sscf_put_16(at + 1, value);
 }
 
+/* LINKS */
+
+/*
+ * The state of a link, SSCF_STATE_..., as its record in the table says it: SSCF_STATE_IN_SERVICE
+ * exactly if the link is in service. The link is one of the table's. No other octet is looked at:
+ * of a record that sscf_step refuses as ill-formed it tells nothing.
+ */
+static inline uint32_t sscf_link_state(const uint8_t *table, uint32_t link)
+{
+    return table[SSCF_LINK_OCTETS * link + SSCF_LINK_AT_STATE];
+}
+
 /* EVENTS */
 
 /*
@@ -144,7 +156,9 @@ static inline const uint8_t *sscf_next_signal(const uint8_t *out, struct sscf_an
  *
  * Each code as Q.2140 has it, and refusals in a few words; "?" if there is no such code. Status
  * codes and a REPORT's values are the abbreviations of Table 6, so that its {LR,OOS,-} can be
- * printed as it stands there: 0 in a REPORT is "-".
+ * printed as it stands there: 0 in a REPORT is "-". The trace's scripts, host/names and host/ladder
+ * of the sources, print the shorter names of sscf.h's constants instead: what is START_PROVING
+ * there is MAAL-PROVING-indication here.
  */
 
 static inline const char *sscf_state_name(uint32_t state)
