@@ -3,7 +3,8 @@
 ## make library      set-up, proof and library alone
 ## make test         the gate: ends with 'N passed, 0 failed'
 ## make bench        what a step costs against a second machine, in instructions and, on x86-64, in time
-## make install      the library for C, its headers and a pkg-config file, below PREFIX (/usr/local), the archive into LIBDIR (PREFIX/lib);
+## make install      the library for C, its headers and a pkg-config file, below PREFIX (/usr/local), the archive into LIBDIR (PREFIX/lib); proves first,
+##                   for some minutes, where the archive is older than a crate;
 ##                   DESTDIR goes before both, for packages
 ## make uninstall    takes them away again
 ## make clean        removes target/, all that was made

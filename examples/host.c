@@ -172,11 +172,14 @@ static void keep_register(unsigned link)
 /* An event by its name, with the status that it brings or that the unit in it has. */
 static void print_event(unsigned link, const uint8_t *event)
 {
-    unsigned status = event[SSCF_HEAD_AT_PARAMETER];
+    unsigned code = event[SSCF_HEAD_AT_CODE], status = 0;
 
-    if (sscf_get_16(event + SSCF_HEAD_AT_LENGTH) == SSCF_UNIT_OCTETS)
+    if (code >= SSCF_EVENT_ESTABLISH_INDICATION && code <= SSCF_EVENT_RELEASE_INDICATION)
+        status = event[SSCF_HEAD_AT_PARAMETER];
+    else if (code == SSCF_EVENT_DATA &&
+             sscf_get_16(event + SSCF_HEAD_AT_LENGTH) == SSCF_UNIT_OCTETS)
         status = event[SSCF_HEAD_OCTETS + SSCF_UNIT_OCTETS - 1];
-    printf("%5lu ms  link %u  %s", now, link, sscf_event_name(event[SSCF_HEAD_AT_CODE]));
+    printf("%5lu ms  link %u  %s", now, link, sscf_event_name(code));
     if (status != 0)
         printf(" %s", sscf_status_name(status));
     printf("\n");

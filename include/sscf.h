@@ -19,9 +19,9 @@
  *
  * The library is for x86-64 Linux. It allocates nothing, keeps nothing between calls and calls
  * nothing back; every call returns, whatever octets it is given. All it knows of the links stands
- * in the table, which is the host's: it may be copied, stored and carried to another process.
- * What the calls promise, at the end of this header, is proved of the code, for every table and
- * every event.
+ * in the table, which is the host's: it may be copied, stored and carried to another process, where
+ * one copy alone goes on, the latest, whole. What the calls promise, at the end of this header, is
+ * proved of the code, for every table and every event.
  *
  * Of the C library it needs memmove and nothing else; a later version may also need memcpy, memset,
  * memcmp or bcmp. A step takes at most 256 octets of stack, memmove's own not counted, the other
@@ -155,13 +155,15 @@ extern "C" {
  *      5      UPS, what the user wishes, SSCF_UPS_...
  *      6      the timers running, a sum of SSCF_TIMER_...
  *      7      1 if BSNT is known, else 0
- *      8-10   BSNT, the number of the latest DATA accepted; 0 where not known
+ *      8-10   BSNT, the number of the latest DATA accepted, units among them, kept until the next
+ *             DATA, also through later connections; 0 where not known
  *      11     0
  *      12-13  C1, the proving units still to be sent
  *      14-15  n1, the proving units of normal proving, at least 1
  *
- * Anything else is ill-formed. A fresh record has its mark, state 1 and n1, and 0 in every other
- * octet.
+ * Anything else is ill-formed. Each field is looked at by itself: a C1 above n1, or a timer that
+ * runs in state 1, is well-formed. A fresh record has its mark, state 1 and n1, and 0 in every
+ * other octet.
  */
 
 /* Out of service are both 1 and 2, in service is 8 alone. */
@@ -206,12 +208,12 @@ enum sscf_ups { SSCF_UPS_NORMAL = 0, SSCF_UPS_EMERGENCY = 1 };
  * signalling link is approximately 50% of its nominal cell rate" (Table 5). The other defaults are
  * for 64 kbit/s, which makes T3 some 13 ms: a proving unit is one cell, and a cell takes 6.6 ms.
  *
- * Proving takes n1 + 1 expiries of T3, the last for the INS unit. They must fit into T2, which runs
- * from START on, at both ends, with time left for the connection itself. Else T2 ends every
- * attempt: with n1 = 1000 and T2 of 30 seconds, a link that proves with T3 of 31 ms is never in
- * service, nor one with 30. What is left of T2 is also how far apart the STARTs of the two ends may
- * lie, since T2 of the first runs from its own: with T3 of 13 ms not quite 17 seconds. Else the
- * first is given up, and its user has to start it again.
+ * Proving takes one expiry of T3 for each unit decided, n1 or none, and one more for the INS unit.
+ * These must fit into T2, which runs from START on, at both ends, with time left for the connection
+ * itself. Else T2 ends every attempt: with n1 = 1000 and T2 of 30 seconds, a link that proves with
+ * T3 of 31 ms is never in service, nor one with 30. What is left of T2 is also how far apart the
+ * STARTs of the two ends may lie, since T2 of the first runs from its own: with T3 of 13 ms not
+ * quite 17 seconds. Else the first is given up, and its user has to start it again.
  */
 enum sscf_timer {
     SSCF_TIMER_T1 = 1, /* from a failed attempt at a connection to the next one: 5 seconds */
@@ -263,8 +265,8 @@ enum sscf_status {
  *
  * The user starts a link (START) and stops it (STOP), asks for proving to be left out (EMERGENCY)
  * or no longer so (EMERGENCY_CEASES), and sends. For a changeover it asks, out of service, for the
- * number of the last message received (RETRIEVE_BSNT), and for those of its own messages that the
- * peer has not accepted, FSNC being the last it has (RETRIEVAL_REQUEST_AND_FSNC).
+ * number of the latest DATA that was accepted (RETRIEVE_BSNT), and for those of its own messages
+ * that the peer has not accepted, FSNC being the last it has (RETRIEVAL_REQUEST_AND_FSNC).
  */
 enum sscf_event {
     /* From the user. */
@@ -278,11 +280,13 @@ enum sscf_event {
     SSCF_EVENT_FLUSH_BUFFERS = 8,              /* ignored                         12345678 */
     SSCF_EVENT_CONTINUE = 9,                   /* ignored                         12345678 */
 
-    /* From SSCOP, its AA- signals. DATA of five octets or more is a message for the user, of four a
-     * unit of the peer; shorter ones are dropped, and so are units that come with RETRIEVE. These
-     * are protocol errors, for which the connection is released (PE): ESTABLISH in states 3 and 4
-     * with a field other than NM and EM, a message before service, an INS or NM unit in service,
-     * RESYNC, and RECOVER in state 6. */
+    /* From SSCOP, its AA- signals. A call of the peer in state 1 is turned down by RELEASE_REQUEST
+     * with OOS, or PO during an outage. DATA of five octets or more is a message for the user, of
+     * four a unit of the peer; shorter ones are dropped, and so are units of another status than NM
+     * and INS, and those that come with RETRIEVE. RECOVER is answered and reported in states 7 and
+     * 8, UNITDATA is only reported. These are protocol errors, for which the connection is released
+     * (PE): ESTABLISH in states 3 and 4 with a field other than NM and EM, none among them, a
+     * message before service, an INS or NM unit in service, RESYNC, and RECOVER in state 6. */
     SSCF_EVENT_ESTABLISH_INDICATION = 16,      /* field                           1.3..... */
     SSCF_EVENT_ESTABLISH_CONFIRM = 17,         /* field                           ...4.... */
     SSCF_EVENT_RELEASE_INDICATION = 18,        /* field; number: SSCF_SOURCE_...  ...4.678 */
@@ -296,8 +300,10 @@ enum sscf_event {
 
     /* From layer management. RELEASE takes the link out of service. OUTAGE does so in states 7 and
      * 8, and, while it lasts, to a link that ends proving. PROVING_UNSUCCESSFUL, and CONGESTION in
-     * state 6, give up the connection, and the link tries again. FORCE_PROVING sets MPS_NORMAL;
-     * a mode counts from the next connection on. */
+     * state 6, give up the connection, and the link tries again. In states 7 and 8 CONGESTION and
+     * its end are told to the user and reported, its end is reported in state 5, and elsewhere both
+     * do nothing. FORCE_PROVING sets MPS_NORMAL; a mode counts from the next connection that comes
+     * up on. */
     SSCF_EVENT_PROVING_UNSUCCESSFUL = 32,      /*                                 .....6.. */
     SSCF_EVENT_RELEASE = 33,                   /*                                 12345678 */
     SSCF_EVENT_OUTAGE = 34,                    /* local processor outage          12345678 */
@@ -333,7 +339,7 @@ enum sscf_signal {
     SSCF_SIGNAL_RETRIEVED_MESSAGES = 6,    /* message, 5 to 4,096 octets */
     SSCF_SIGNAL_RETRIEVAL_COMPLETE = 7,
     SSCF_SIGNAL_BSNT = 8,                  /* number: that of the latest DATA accepted */
-    SSCF_SIGNAL_BSNT_NOT_RETRIEVABLE = 9,  /* there was none */
+    SSCF_SIGNAL_BSNT_NOT_RETRIEVABLE = 9,  /* there was none since the table was made */
 
     /* To SSCOP. Octet 8 of ESTABLISH is the buffer release parameter, 1 for yes, 0 for no. */
     SSCF_SIGNAL_ESTABLISH_REQUEST = 16,    /* octet 5: NM or EM; octet 8: 0 */
@@ -346,7 +352,7 @@ enum sscf_signal {
     /* To layer management, which monitors errors from START_PROVING to STOP_PROVING. Two events in
      * state 6 end proving with no STOP_PROVING, PROVING_UNSUCCESSFUL and RELEASE: they come from
      * layer management itself. */
-    SSCF_SIGNAL_START_PROVING = 32,
+    SSCF_SIGNAL_START_PROVING = 32,        /* MAAL-PROVING; also where no unit is to be sent */
     SSCF_SIGNAL_STOP_PROVING = 33,
     SSCF_SIGNAL_REPORT = 34,               /* octets 6, 7 and 8: SSCF_REPORT_..., see below */
 
@@ -439,7 +445,8 @@ enum sscf_refusal {
 
 /*
  * Makes a fresh table: every record of the table_octets / 16 becomes out of service, with nothing
- * forced, no timer running and no BSNT, and n1 proving units for normal proving.
+ * forced, no timer running and no BSNT, and n1 proving units for normal proving. Links with another
+ * n1 want a table of their own.
  *
  * Answers SSCF_ACCEPTED, or SSCF_REFUSED_TABLE, or else SSCF_REFUSED_FIELD if n1 is 0. A refusal
  * leaves the table as it was.
