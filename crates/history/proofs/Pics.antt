@@ -33,6 +33,7 @@ use Rattle.link.specs.declared.Signal.{Signal}
 use Rattle.link.specs.Effect.{with-state, with-ins, with-lpo, with-ups, with-c1, with-bsnt, with-timer, taken}
 use Rattle.link.specs.Signal.{none, num, signal, bare, signalOf}
 use Rattle.link.specs.Step.{Meeting, meeting, facts, Outcome, Illegal, Legal, outcome, stepOf}
+use Rattle.link.specs.Twelve.{unit, report}
 use Rattle.record.specs.LinkRecord.{wellFormed, linkOf}
 use Rattle.record.proofs.LinkRecord.{unpacked}
 use Rattle.event.specs.Frame.{EV, written, linkAt, codeAt, paramAt, numberAt, lengthAt, messageOf}
@@ -50,7 +51,7 @@ use Rattle.sscf.proofs.Taken.{Makes, step-accepted}
 use Rattle.sscf.proofs.Untouched.{number-above, refusals-untouched, same-lengths, stays-well-formed, accepted-written}
 use Rattle.sscf.proofs.AllFresh.{fresh-well-formed}
 use Rattle.history.specs.Calls.{Call, fresh, step, signalsIn, World, made, next, run, AfterEachCall}
-use Rattle.history.specs.Pics.{Turn, _⇒_, Happens, linkIn, Leads, plain, asking, from-peer, coded, Source, sourced, released, message, arriving, unit, report, report-uu, reported}
+use Rattle.history.specs.Pics.{Turn, _⇒_, Happens, linkIn, Leads, plain, asking, from-peer, coded, Source, sourced, released, message, arriving, report-uu, reported}
 use Rattle.history.specs.Pics.{request, response, units, readies, completes, joins, notes, later, sooner, Brings, Serves, starts, answers, confirms, fails, SNPC1, SNPC2}
 use Rattle.history.specs.Pics.{SNPC3, SNPC4, SNPC5, stops, SNPC6, toUser, toSSCOP, toManagement, toTimers, oneOf, every, SNPC6-1, SNPC7, SNPC8}
 use Rattle.history.specs.Pics.{T1-runs, T2-runs, retries, SNSP1, gives-up, expires, SNSP2}

@@ -12,7 +12,7 @@ use Rattle.unit.specs.declared.Ups.{Ups}
 use Rattle.unit.specs.Unit.{code, unitOf}
 use Rattle.unit.specs.Proving.{table7, table8}
 use Rattle.table6.specs.declared.State.{State}
-use Rattle.table6.specs.Words.{Abbreviation, –, OOS, INS, ANS, LR, RR, SR, ALN, PDUT, SSCOP-UU, first, second, third}
+use Rattle.table6.specs.Words.{–, OOS, INS, ANS, LR, RR, SR, ALN, PDUT, SSCOP-UU, first, second, third}
 use Rattle.table6.specs.Words.{1/1/1, 1/4/1, 2/1/2, 2/2/2, 2/4/2, 2/10/3, 2/10/4, 3/10/5}
 use Rattle.table6.specs.EventCodes.{MESSAGE-FOR-TRANSMISSION, STOP, START, ESTABLISH-indication, ESTABLISH-confirm, RELEASE-indication, RELEASE-confirm, DATA-indication, T1-expired, T2-expired, T3-expired}
 use Rattle.table6.specs.SignalCodes.{RECEIVED-MESSAGE, LINK-CONGESTED, CONGESTION-CEASED, IN-SERVICE, OUT-OF-SERVICE, RETRIEVED-MESSAGES, RETRIEVAL-COMPLETE, BSNT, BSNT-NOT-RETRIEVABLE}
@@ -23,6 +23,7 @@ use Rattle.link.specs.declared.Carries.{Carries}
 use Rattle.link.specs.declared.Link.{Link}
 use Rattle.link.specs.declared.Signal.{Signal}
 use Rattle.link.specs.Signal.{none, num, signal, bare}
+use Rattle.link.specs.Twelve.{release, unit, report}
 use Rattle.record.specs.LinkRecord.{linkOf}
 use Rattle.event.specs.Frame.{messageOctets, EV, written, linkAt, codeAt, messageOf}
 use Rattle.signal.specs.SignalRecord.{signalOctets}
@@ -92,15 +93,6 @@ abbrev pub arriving : List ℕ → Num → ℕ → List ℕ
 arriving m n k = written EV k DATA-indication 0 n m
 
 -- SIGNALS
-abbrev pub release : Status → Signal
-release s = signal RELEASE-request (code s) none Carries.Nothing
-
-abbrev pub unit : Status → Signal
-unit s = signal DATA-request 0 none (Carries.Unit s)
-
-abbrev pub report : Abbreviation → Abbreviation → Abbreviation → Signal
-report a b c = signal REPORT 0 (num (first a) (second b) (third c)) Carries.Nothing
-
 -- with the field that came
 abbrev pub report-uu : Field → Signal
 report-uu f = signal REPORT (coded f) (num (first RR) (second –) (third SSCOP-UU)) Carries.Nothing
@@ -191,7 +183,7 @@ pub record SNPC5 : Type 0 where
 
 -- SNPC6. STOP releases a connection that is present, as demand 3 has it.
 abbrev pub stops : List Signal → ℕ → Turn
-stops rest k = plain STOP k ⇒ release Status.OOS ∷ rest
+stops rest k = plain STOP k ⇒ release OOS ∷ rest
 
 abbrev pub SNPC6 : Type 0
 SNPC6 = AfterEachCall (λ w k. Connection (history w k) → (rest : List Signal) × Leads w k (stops rest k ∷ []) 1/4/1)
@@ -272,10 +264,10 @@ abbrev pub gives-up : State → List Signal
 gives-up State.S111 = []
 gives-up State.S141 = []
 gives-up State.S212 = bare OUT-OF-SERVICE ∷ report LR OOS ANS ∷ bare RESET-T1 ∷ []
-gives-up State.S222 = release Status.ANS ∷ bare OUT-OF-SERVICE ∷ report LR OOS ANS ∷ []
+gives-up State.S222 = release ANS ∷ bare OUT-OF-SERVICE ∷ report LR OOS ANS ∷ []
 gives-up State.S242 = bare OUT-OF-SERVICE ∷ report – OOS ANS ∷ []
-gives-up State.S2103 = report LR OOS ANS ∷ bare STOP-PROVING ∷ bare OUT-OF-SERVICE ∷ release Status.ANS ∷ bare RESET-T3 ∷ []
-gives-up State.S2104 = report LR OOS ANS ∷ bare OUT-OF-SERVICE ∷ release Status.ANS ∷ []
+gives-up State.S2103 = report LR OOS ANS ∷ bare STOP-PROVING ∷ bare OUT-OF-SERVICE ∷ release ANS ∷ bare RESET-T3 ∷ []
+gives-up State.S2104 = report LR OOS ANS ∷ bare OUT-OF-SERVICE ∷ release ANS ∷ []
 gives-up State.S3105 = []
 
 abbrev pub expires : State → ℕ → Turn
