@@ -12,7 +12,8 @@ use Rattle.unit.specs.declared.Arrived.{Arrived}
 use Rattle.unit.specs.Unit.{arrived}
 use Rattle.unit.specs.Answered.{Answered, refused, accepted}
 use Rattle.table6.specs.EventCodes.{MESSAGE-FOR-TRANSMISSION, EMERGENCY, EMERGENCY-CEASES, STOP, START, RETRIEVE-BSNT, RETRIEVAL-REQUEST-AND-FSNC, FLUSH-BUFFERS, CONTINUE}
-use Rattle.table6.specs.EventCodes.{ESTABLISH-indication, ESTABLISH-confirm, RELEASE-indication, RELEASE-confirm, DATA-indication, RESYNC-indication, RECOVER-indication, UNITDATA-indication, RETRIEVE-indication, RETRIEVE-COMPLETE-indication}
+use Rattle.table6.specs.EventCodes.{ESTABLISH-indication, ESTABLISH-confirm, RELEASE-indication, RELEASE-confirm, DATA-indication, RESYNC-indication, RECOVER-indication}
+use Rattle.table6.specs.EventCodes.{UNITDATA-indication, RETRIEVE-indication, RETRIEVE-COMPLETE-indication}
 use Rattle.table6.specs.EventCodes.{PROVING-UNSUCCESSFUL, RELEASE, OUTAGE, RECOVERED, FORCE-PROVING, FORCE-EMERGENCY, CLEAR-FORCE-MODES, CONGESTION, CONGESTION-CEASED}
 use Rattle.table6.specs.EventCodes.{T1-expired, T2-expired, T3-expired}
 use Rattle.table6.proofs.Every.{left, right}
@@ -22,7 +23,8 @@ use Rattle.link.specs.Signal.{num, none}
 use Rattle.event.specs.declared.Reading.{Reading}
 use Rattle.octet.specs.Octets.{at}
 use Rattle.event.specs.Frame.{EV, lengthAt, linkAt, numberAt, messageOf, codeAt, paramAt, written}
-use Rattle.event.specs.EventRecord.{framed, events, Coded, among, Each, codedAt, codedIn, said, isStatus, hasMessage, hasNumber, hasField, hasParameter, isZero, misfit, reading, fitting, saying, fieldsOf, readingOf, Holds, Carried, carrying, carried, Rewritten, Reread}
+use Rattle.event.specs.EventRecord.{framed, events, Coded, among, Each, codedAt, codedIn, said, isStatus, hasMessage, hasNumber, hasField, hasParameter, isZero}
+use Rattle.event.specs.EventRecord.{misfit, reading, fitting, saying, fieldsOf, readingOf, Holds, Carried, carrying, carried, Rewritten, Reread}
 use Rattle.event.proofs.Frame.{frame-rewritten, frame-reread, two-back}
 
 -- WHAT A READING TELLS of the tests in it: whether the frame is sound, what the code says, whether a field misfits

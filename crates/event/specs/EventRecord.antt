@@ -10,7 +10,8 @@ use Rattle.unit.specs.declared.Field.{Field}
 use Rattle.unit.specs.Unit.{decoded, arrived}
 use Rattle.unit.specs.Answered.{Answered, refused, accepted}
 use Rattle.table6.specs.EventCodes.{MESSAGE-FOR-TRANSMISSION, EMERGENCY, EMERGENCY-CEASES, STOP, START, RETRIEVE-BSNT, RETRIEVAL-REQUEST-AND-FSNC, FLUSH-BUFFERS, CONTINUE}
-use Rattle.table6.specs.EventCodes.{ESTABLISH-indication, ESTABLISH-confirm, RELEASE-indication, RELEASE-confirm, DATA-indication, RESYNC-indication, RECOVER-indication, UNITDATA-indication, RETRIEVE-indication, RETRIEVE-COMPLETE-indication}
+use Rattle.table6.specs.EventCodes.{ESTABLISH-indication, ESTABLISH-confirm, RELEASE-indication, RELEASE-confirm, DATA-indication, RESYNC-indication, RECOVER-indication}
+use Rattle.table6.specs.EventCodes.{UNITDATA-indication, RETRIEVE-indication, RETRIEVE-COMPLETE-indication}
 use Rattle.table6.specs.EventCodes.{PROVING-UNSUCCESSFUL, RELEASE, OUTAGE, RECOVERED, FORCE-PROVING, FORCE-EMERGENCY, CLEAR-FORCE-MODES, CONGESTION, CONGESTION-CEASED}
 use Rattle.table6.specs.EventCodes.{T1-expired, T2-expired, T3-expired}
 use Rattle.table6.specs.RefusalCodes.{REFUSED-FRAME, REFUSED-CODE, REFUSED-FIELD}

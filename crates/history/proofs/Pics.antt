@@ -20,9 +20,11 @@ use Rattle.table6.specs.Rows.{printed}
 use Rattle.table6.specs.Order.{signals}
 use Rattle.table6.specs.Words.{–, OOS, LR, SR, ALN, PDUT}
 use Rattle.table6.specs.Words.{1/1/1, 1/4/1, 2/1/2, 2/2/2, 2/4/2, 2/10/3, 2/10/4, 3/10/5}
-use Rattle.table6.specs.EventCodes.{MESSAGE-FOR-TRANSMISSION, STOP, START, ESTABLISH-indication, ESTABLISH-confirm, RELEASE-indication, RELEASE-confirm, DATA-indication, T1-expired, T2-expired, T3-expired}
+use Rattle.table6.specs.EventCodes.{MESSAGE-FOR-TRANSMISSION, STOP, START, ESTABLISH-indication, ESTABLISH-confirm, RELEASE-indication, RELEASE-confirm, DATA-indication}
+use Rattle.table6.specs.EventCodes.{T1-expired, T2-expired, T3-expired}
 use Rattle.table6.specs.SignalCodes.{code, RECEIVED-MESSAGE, OUT-OF-SERVICE, DATA-request, START-PROVING, STOP-PROVING, SET-T1, SET-T2, SET-T3, RESET-T1, RESET-T2, RESET-T3}
-use Rattle.table6.specs.Table6.{AAL-START-request, AAL-STOP-request, AAL-MESSAGE-FOR-TRANSMISSION-request, AA-ESTABLISH-indication-with-EM-NM, AA-ESTABLISH-confirm-with-EM-NM, AA-RELEASE-indication-from-User, AA-RELEASE-indication-from-SSCOP, AA-RELEASE-confirm}
+use Rattle.table6.specs.Table6.{AAL-START-request, AAL-STOP-request, AAL-MESSAGE-FOR-TRANSMISSION-request, AA-ESTABLISH-indication-with-EM-NM}
+use Rattle.table6.specs.Table6.{AA-ESTABLISH-confirm-with-EM-NM, AA-RELEASE-indication-from-User, AA-RELEASE-indication-from-SSCOP, AA-RELEASE-confirm}
 use Rattle.table6.specs.Table6.{AA-DATA-indication-with-INS, AA-DATA-indication-with-MU>4, T1-expires, T2-expires, T3-expires-and-C1>0, T3-expires-and-C1=0}
 use Rattle.link.specs.declared.Num.{Num}
 use Rattle.link.specs.declared.Carries.{Carries}

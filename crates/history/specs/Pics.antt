@@ -14,7 +14,8 @@ use Rattle.unit.specs.Proving.{table7, table8}
 use Rattle.table6.specs.declared.State.{State}
 use Rattle.table6.specs.Words.{–, OOS, INS, ANS, LR, RR, SR, ALN, PDUT, SSCOP-UU, first, second, third}
 use Rattle.table6.specs.Words.{1/1/1, 1/4/1, 2/1/2, 2/2/2, 2/4/2, 2/10/3, 2/10/4, 3/10/5}
-use Rattle.table6.specs.EventCodes.{MESSAGE-FOR-TRANSMISSION, STOP, START, ESTABLISH-indication, ESTABLISH-confirm, RELEASE-indication, RELEASE-confirm, DATA-indication, T1-expired, T2-expired, T3-expired}
+use Rattle.table6.specs.EventCodes.{MESSAGE-FOR-TRANSMISSION, STOP, START, ESTABLISH-indication, ESTABLISH-confirm, RELEASE-indication, RELEASE-confirm, DATA-indication}
+use Rattle.table6.specs.EventCodes.{T1-expired, T2-expired, T3-expired}
 use Rattle.table6.specs.SignalCodes.{RECEIVED-MESSAGE, LINK-CONGESTED, CONGESTION-CEASED, IN-SERVICE, OUT-OF-SERVICE, RETRIEVED-MESSAGES, RETRIEVAL-COMPLETE, BSNT, BSNT-NOT-RETRIEVABLE}
 use Rattle.table6.specs.SignalCodes.{ESTABLISH-request, ESTABLISH-response, RELEASE-request, DATA-request, RECOVER-response, RETRIEVE-request}
 use Rattle.table6.specs.SignalCodes.{START-PROVING, STOP-PROVING, REPORT, SET-T1, SET-T2, SET-T3, RESET-T1, RESET-T2, RESET-T3}

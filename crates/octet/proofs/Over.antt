@@ -6,7 +6,8 @@ use native.Mathlib.Nat.{zero-add, suc-add}
 use native.Mathlib.Numerals.{add-one}
 use native.Mathlib.Omega.{arith}
 use lib.ListN.{length, take, drop, getD, set, length-set, length-append, length-take, length-drop, drop-of-length-le, take-append-drop}
-use lib.Seq.{length-take-le, take-all, take-suc, drop-cons, append-snoc, set-at, set-append-left, take-length, take-append-seam, drop-append-seam, take-append-le, drop-append-le, take-append-add, drop-append-add, drop-at, drop-drop}
+use lib.Seq.{length-take-le, take-all, take-suc, drop-cons, append-snoc, set-at, set-append-left, take-length, take-append-seam, drop-append-seam, take-append-le}
+use lib.Seq.{drop-append-le, take-append-add, drop-append-add, drop-at, drop-drop}
 use Rattle.octet.specs.Octets.{over, putAt}
 
 -- a turn of the loop that copies, and its end

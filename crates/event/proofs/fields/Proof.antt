@@ -2,13 +2,15 @@
 use borrow.Author.Needs.{needs}
 use mathlib.Core.Path.{refl, _∙_}
 use Rattle.table6.specs.EventCodes.{MESSAGE-FOR-TRANSMISSION, EMERGENCY, EMERGENCY-CEASES, STOP, START, RETRIEVE-BSNT, RETRIEVAL-REQUEST-AND-FSNC, FLUSH-BUFFERS, CONTINUE}
-use Rattle.table6.specs.EventCodes.{ESTABLISH-indication, ESTABLISH-confirm, RELEASE-indication, RELEASE-confirm, DATA-indication, RESYNC-indication, RECOVER-indication, UNITDATA-indication, RETRIEVE-indication, RETRIEVE-COMPLETE-indication}
+use Rattle.table6.specs.EventCodes.{ESTABLISH-indication, ESTABLISH-confirm, RELEASE-indication, RELEASE-confirm, DATA-indication, RESYNC-indication, RECOVER-indication}
+use Rattle.table6.specs.EventCodes.{UNITDATA-indication, RETRIEVE-indication, RETRIEVE-COMPLETE-indication}
 use Rattle.table6.specs.EventCodes.{PROVING-UNSUCCESSFUL, RELEASE, OUTAGE, RECOVERED, FORCE-PROVING, FORCE-EMERGENCY, CLEAR-FORCE-MODES, CONGESTION, CONGESTION-CEASED}
 use Rattle.table6.specs.EventCodes.{T1-expired, T2-expired, T3-expired}
 use Rattle.event.specs.Frame.{lengthAt, paramAt, numberAt}
 use Rattle.event.specs.EventRecord.{codedAt}
 use Rattle.event.proofs.Frame.{at-most}
-use Rattle.event.proofs.EventRecord.{at-code, no-code, no-more, at-bare, at-message, at-retrieval, at-establish-indication, at-establish-confirm, at-release-indication, at-data, at-unitdata, at-retrieve, at-congestion}
+use Rattle.event.proofs.EventRecord.{at-code, no-code, no-more, at-bare, at-message, at-retrieval, at-establish-indication, at-establish-confirm}
+use Rattle.event.proofs.EventRecord.{at-release-indication, at-data, at-unitdata, at-retrieve, at-congestion}
 use Rattle.event.proofs.fields.Statement.{statement}
 use Rattle.event.proofs.fields.Tie as tie
 

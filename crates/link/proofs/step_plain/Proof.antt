@@ -17,7 +17,8 @@ use prog.Wp.{Heap, Calls, Loops, WpFn, Tables}
 use ghost.Atoms.{Atoms, sem}
 use contract.Monad.{Fun, fact}
 use contract.Running.{givenOf, tables, tablesOf}
-use types.Kit.{Given, ‵, raw, some, later, _⊛_, _$_, _∵_, !, qed, by, move, keep, use1, use2, use3, split, join, pick, await, updating, now as at-once, show, fsplit, fjoin, fpick, fpack, suffices, frame, done}
+use types.Kit.{Given, ‵, raw, some, later, _⊛_, _$_, _∵_, !, qed, by, move, keep, use1, use2, use3, split, join, pick, await, updating, now as at-once, show, fsplit}
+use types.Kit.{fjoin, fpick, fpack, suffices, frame, done}
 use types.Run.{look, init, forget, stop, from, load, addr, and-then, no-more, land, of-opd, assigns, returns, enter, alloc1, alloc0, params1, pass1, pass0, free1, free0}
 use types.Part.{agg}
 use types.SemTy.{Body}
