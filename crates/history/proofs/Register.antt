@@ -8,7 +8,7 @@ use native.Mathlib.Omega.{arith}
 use lib.Dec.{eqb}
 use borrow.Author.Tests.{eqb-true}
 use Rattle.unit.specs.declared.Mps.{Mps}
-use Rattle.unit.proofs.Proving.{forced-normal}
+use Rattle.unit.proofs.Proving.{all-if-normal}
 use Rattle.table6.specs.declared.State.{State}
 use Rattle.table6.proofs.Every.{left, right}
 use Rattle.octet.specs.Octets.{at}
@@ -53,7 +53,7 @@ not-early =
 enough : (n1 : ℕ) (h : List Mark) → served n1 h ≡ true → (c : Connection h) → mps (begun c) ≡ Mps.Normal → n1 ≤ count provingSent (since c)
 enough n1 h t c e =
     let all : sent h ≡ due n1 h = eqb-true (sent h) (due n1 h) (left (eqb (sent h) (due n1 h)) (toldIns n1 h && heardIns h) (right (alive h) _ t)) in
-    let d : n1 ≤ decided n1 (begun c) = rw e (forced-normal (ups (begun c)) (field (begun c)) n1) in
+    let d : n1 ≤ decided n1 (begun c) = rw e (all-if-normal (ups (begun c)) (field (begun c)) n1) in
     omega (arith, sent-there c, due-there c n1)
 
 pub forced-proving : ForcedProving

@@ -13,7 +13,7 @@ use Rattle.unit.specs.declared.Mps.{Mps}
 use Rattle.unit.specs.declared.Ups.{Ups}
 use Rattle.unit.specs.Unit.{unitOf, kind, arrived}
 use Rattle.unit.specs.Proving.{asked, table7}
-use Rattle.unit.proofs.Proving.{forced-emergency}
+use Rattle.unit.proofs.Proving.{none-if-emergency}
 use Rattle.table6.specs.EventCodes.{EMERGENCY, EMERGENCY-CEASES, STOP, ESTABLISH-confirm, RELEASE-indication, DATA-indication, FORCE-PROVING, FORCE-EMERGENCY, CLEAR-FORCE-MODES}
 use Rattle.table6.specs.SignalCodes.{IN-SERVICE, OUT-OF-SERVICE, ESTABLISH-response, RELEASE-request, DATA-request}
 use Rattle.table6.specs.Summary.{Op, keep, put, over}
@@ -204,7 +204,7 @@ module _ (f : Found) (h : List Mark) (level : f .level ≡ true → f .sent ≡ 
   not-forced : (x : Mps) (d : ℕ) → 1 ≤ d → d ≡ table7 x (ups (from edge h)) (asked (field (from edge h))) (f .n1) → not (isEmergency x) ≡ true
   not-forced Mps.Neutral d i e = refl
   not-forced Mps.Normal d i e = refl
-  not-forced Mps.Emergency d i e = absurd (omega (arith, e, forced-emergency (ups (from edge h)) (field (from edge h)) (f .n1)))
+  not-forced Mps.Emergency d i e = absurd (omega (arith, e, none-if-emergency (ups (from edge h)) (field (from edge h)) (f .n1)))
 
   proving-ok : (A : Abs) → Is f A h → Then (ruleProving (f .above) A) (emitted DATA-request Arrived.NM)
   unfolding stands alive toldIns heardIns sent due lawful

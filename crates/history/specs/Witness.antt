@@ -11,16 +11,17 @@ use Rattle.unit.specs.Unit.{code, unitOf}
 use Rattle.table6.specs.EventCodes as event
 use Rattle.link.specs.Signal.{none, num}
 use Rattle.event.specs.Frame.{EV, written}
-use Rattle.sscf.specs.Step.{records}
+use Rattle.sscf.specs.Step.{records, outputOctets}
 use Rattle.sscf.specs.Fresh.{freshCall}
 use Rattle.history.specs.Calls.{Call, fresh, step, World, made, run}
 use Rattle.history.specs.History.{Mark, history}
+use Rattle.history.specs.Pics.{Source, sourced}
 use Rattle.history.specs.Tests.{stands, alive, sent, due, toldIns, heardIns}
 
 -- EVENTS, all for link 1 of a table of two links with n1 = 2, each with room for 4,192 octets
 
 abbrev pub room : List ℕ
-room = replicate 4192 0
+room = replicate outputOctets 0
 
 abbrev pub plain : ℕ → Call
 plain c = step (written EV 1 c 0 none []) room
@@ -52,9 +53,8 @@ ESTABLISH-confirm s = step (written EV 1 event.ESTABLISH-confirm (code s) none [
 abbrev pub ESTABLISH-indication : Status → Call
 ESTABLISH-indication s = step (written EV 1 event.ESTABLISH-indication (code s) none []) room
 
--- 0: the far user, 1: SSCOP
-abbrev pub RELEASE-indication : ℕ → Call
-RELEASE-indication source = step (written EV 1 event.RELEASE-indication 0 (num 0 0 source) []) room
+abbrev pub RELEASE-indication : Source → Call
+RELEASE-indication source = step (written EV 1 event.RELEASE-indication 0 (num 0 0 (sourced source)) []) room
 
 abbrev pub DATA : Status → Call
 DATA s = step (written EV 1 event.DATA-indication 0 none (unitOf s)) room
@@ -89,13 +89,13 @@ pub record Witness : Type 0 where
   -- IN SERVICE, with proving and without: forced by management, or by the user's wish, where the peer calls
   pub with-proving : In proved
   pub without : In (FORCE-EMERGENCY ∷ START ∷ ESTABLISH-confirm Status.NM ∷ T3 ∷ DATA Status.INS ∷ [])
-  pub by-wish : In (START ∷ RELEASE-indication 0 ∷ EMERGENCY ∷ ESTABLISH-indication Status.NM ∷ T3 ∷ DATA Status.INS ∷ [])
+  pub by-wish : In (START ∷ RELEASE-indication Source.User ∷ EMERGENCY ∷ ESTABLISH-indication Status.NM ∷ T3 ∷ DATA Status.INS ∷ [])
   -- THE CONNECTION: none has come up; it was released by this end, by the far end, by SSCOP, by the user's stop. All else was done on it (`with-proving`), and
   -- is nothing to the present connection, which there is not.
   pub not-up : Out (START ∷ []) (false ∷ false ∷ false ∷ false ∷ [])
   pub by-this-end : Out (proved ++ RELEASE ∷ []) (false ∷ false ∷ false ∷ false ∷ [])
-  pub by-far-end : Out (proved ++ RELEASE-indication 0 ∷ []) (false ∷ false ∷ false ∷ false ∷ [])
-  pub by-SSCOP : Out (proved ++ RELEASE-indication 1 ∷ []) (false ∷ false ∷ false ∷ false ∷ [])
+  pub by-far-end : Out (proved ++ RELEASE-indication Source.User ∷ []) (false ∷ false ∷ false ∷ false ∷ [])
+  pub by-SSCOP : Out (proved ++ RELEASE-indication Source.SSCOP ∷ []) (false ∷ false ∷ false ∷ false ∷ [])
   pub by-stop : Out (proved ++ STOP ∷ []) (false ∷ false ∷ false ∷ false ∷ [])
   -- THE UNITS: one of two was sent; the INS unit, which comes after them, cannot have been.
   pub one-unit : Out (START ∷ ESTABLISH-confirm Status.NM ∷ T3 ∷ DATA Status.INS ∷ []) (true ∷ false ∷ false ∷ true ∷ [])
@@ -104,7 +104,7 @@ pub record Witness : Type 0 where
   -- THE PEER'S INS UNIT: it did not come; it came on an earlier connection
   pub not-received : Out (START ∷ ESTABLISH-confirm Status.NM ∷ T3 ∷ T3 ∷ T3 ∷ []) (true ∷ true ∷ true ∷ false ∷ [])
   pub earlier :
-      Out (START ∷ ESTABLISH-confirm Status.NM ∷ DATA Status.INS ∷ RELEASE-indication 0 ∷ T1 ∷ ESTABLISH-confirm Status.NM ∷ T3 ∷ T3 ∷ T3 ∷ []) (true ∷ true ∷ true ∷ false ∷ [])
+      Out (START ∷ ESTABLISH-confirm Status.NM ∷ DATA Status.INS ∷ RELEASE-indication Source.User ∷ T1 ∷ ESTABLISH-confirm Status.NM ∷ T3 ∷ T3 ∷ T3 ∷ []) (true ∷ true ∷ true ∷ false ∷ [])
   -- A refused call counts as nothing, a table made anew begins a new history, and what comes to link 1 does not come to link 0.
   pub refused : history (after (START ∷ START ∷ [])) 1 ≡ history (after (START ∷ [])) 1
   pub anew : history (after (proved ++ fresh (replicate 16 0) 3 ∷ [])) 1 ≡ []

@@ -13,7 +13,18 @@ use Rattle.octet.specs.Octets.{at, two}
 
 abbrev pub someState : ℕ → SomeState
 someState c =
-    getD (SomeState.None ∷ SomeState.Of State.S111 ∷ SomeState.Of State.S141 ∷ SomeState.Of State.S212 ∷ SomeState.Of State.S222 ∷ SomeState.Of State.S242 ∷ SomeState.Of State.S2103 ∷ SomeState.Of State.S2104 ∷ SomeState.Of State.S3105 ∷ []) c SomeState.None
+    getD
+    (SomeState.None
+    ∷ SomeState.Of State.S111
+    ∷ SomeState.Of State.S141
+    ∷ SomeState.Of State.S212
+    ∷ SomeState.Of State.S222
+    ∷ SomeState.Of State.S242
+    ∷ SomeState.Of State.S2103
+    ∷ SomeState.Of State.S2104
+    ∷ SomeState.Of State.S3105
+    ∷ [])
+    c SomeState.None
 
 abbrev pub someMps : ℕ → SomeMps
 someMps c = getD (SomeMps.Of Mps.Neutral ∷ SomeMps.Of Mps.Normal ∷ SomeMps.Of Mps.Emergency ∷ []) c SomeMps.None

@@ -6,15 +6,15 @@ use lib.Dec.{lit<}
 use Rattle.unit.specs.declared.Mps.{Mps}
 use Rattle.unit.specs.declared.Ups.{Ups}
 use Rattle.unit.specs.declared.Ups.the-variants.{Normal, Emergency}
-use Rattle.unit.specs.Proving.{mpsCode, upsCode, table7, ForcedEmergency, ForcedNormal, AtMost}
+use Rattle.unit.specs.Proving.{mpsCode, upsCode, table7, NoneIfEmergency, AllIfNormal, AtMost}
 
-pub forced-emergency : ForcedEmergency
+pub none-if-emergency : NoneIfEmergency
 unfolding table7
-forced-emergency ups field n1 = refl
+none-if-emergency ups field n1 = refl
 
-pub forced-normal : ForcedNormal
+pub all-if-normal : AllIfNormal
 unfolding table7
-forced-normal ups field n1 = omega arith
+all-if-normal ups field n1 = omega arith
 
 pub at-most : AtMost
 unfolding table7

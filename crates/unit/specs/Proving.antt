@@ -40,12 +40,12 @@ table8 Mps.Neutral Normal = Status.NM
 table8 Mps.Neutral Emergency = Status.EM
 
 -- Forced modes come first: under Emergency, whatever the user and the peer ask for, no unit is sent.
-abbrev pub ForcedEmergency : Type 0
-ForcedEmergency = (ups : Ups) (field n1 : ℕ) → table7 Mps.Emergency ups (asked field) n1 ≡ 0
+abbrev pub NoneIfEmergency : Type 0
+NoneIfEmergency = (ups : Ups) (field n1 : ℕ) → table7 Mps.Emergency ups (asked field) n1 ≡ 0
 
 -- Under Normal no fewer than n1 are.
-abbrev pub ForcedNormal : Type 0
-ForcedNormal = (ups : Ups) (field n1 : ℕ) → n1 ≤ table7 Mps.Normal ups (asked field) n1
+abbrev pub AllIfNormal : Type 0
+AllIfNormal = (ups : Ups) (field n1 : ℕ) → n1 ≤ table7 Mps.Normal ups (asked field) n1
 
 -- In no mode are more.
 abbrev pub AtMost : Type 0
