@@ -97,10 +97,10 @@
  *   running by itself. An expiry that comes after its timer was reset is refused, does no harm and
  *   can be dropped; one from before a reset must not be handed in after the next set, since nothing
  *   tells the two apart.
- * - What SSCOP said before a RELEASE_REQUEST reached it is not handed in after the next START. In
- *   state 4 an ESTABLISH_CONFIRM or RELEASE_INDICATION of the connection before would be taken for
- *   one of the present connection. A host with a queue takes SSCOP's events 16 to 22 of that link
- *   out of it as it hands the RELEASE_REQUEST on.
+ * - What SSCOP said before a RELEASE_REQUEST reached it is not handed in after the next
+ *   ESTABLISH_REQUEST, by START or by T1. In state 4 an ESTABLISH_CONFIRM or RELEASE_INDICATION of
+ *   the connection before would be taken for one of the present connection. A host with a queue
+ *   takes SSCOP's events 16 to 22 of that link out of it as it hands the RELEASE_REQUEST on.
  * - SSCOP gives no RELEASE_CONFIRM for a RELEASE_REQUEST in answer to ESTABLISH_INDICATION: this
  *   turns the peer's call down, and the link, in state 1 or 3, awaits none. Later, in state 2 or 5,
  *   it would be taken for another's.
@@ -136,7 +136,7 @@ extern "C" {
 #define SSCF_TABLE_OCTETS_MAX 4096     /* a table, 256 x 16 */
 #define SSCF_HEAD_OCTETS 12            /* an event or a signal without its message */
 #define SSCF_MESSAGE_OCTETS_MAX 4096   /* the message of an event or a signal */
-#define SSCF_USER_MESSAGE_OCTETS_MIN 5 /* the peer takes four or fewer for a unit */
+#define SSCF_USER_MESSAGE_OCTETS_MIN 5 /* the peer takes four for a unit */
 #define SSCF_UNIT_OCTETS 4             /* an SSCF unit */
 #define SSCF_SIGNALS_MAX 8             /* signals from one event */
 #define SSCF_OUTPUT_OCTETS 4192        /* what a step asks for, 8 x 12 + 4,096; more is fine */
@@ -283,10 +283,11 @@ enum sscf_event {
     /* From SSCOP, its AA- signals. A call of the peer in state 1 is turned down by RELEASE_REQUEST
      * with OOS, or PO during an outage. DATA of five octets or more is a message for the user, of
      * four a unit of the peer; shorter ones are dropped, and so are units of another status than NM
-     * and INS, and those that come with RETRIEVE. RECOVER is answered and reported in states 7 and
-     * 8, UNITDATA is only reported. These are protocol errors, for which the connection is released
-     * (PE): ESTABLISH in states 3 and 4 with a field other than NM and EM, none among them, a
-     * message before service, an INS or NM unit in service, RESYNC, and RECOVER in state 6. */
+     * and INS, and whatever of four octets or fewer comes with RETRIEVE. RECOVER is answered and
+     * reported in states 7 and 8, UNITDATA is only reported. These are protocol errors, for which
+     * the connection is released (PE): ESTABLISH in states 3 and 4 with no field or one other than
+     * NM and EM; a message before service; an INS or NM unit in service; RESYNC; and RECOVER in
+     * state 6. */
     SSCF_EVENT_ESTABLISH_INDICATION = 16,      /* field                           1.3..... */
     SSCF_EVENT_ESTABLISH_CONFIRM = 17,         /* field                           ...4.... */
     SSCF_EVENT_RELEASE_INDICATION = 18,        /* field; number: SSCF_SOURCE_...  ...4.678 */
@@ -301,9 +302,9 @@ enum sscf_event {
     /* From layer management. RELEASE takes the link out of service. OUTAGE does so in states 7 and
      * 8, and, while it lasts, to a link that ends proving. PROVING_UNSUCCESSFUL, and CONGESTION in
      * state 6, give up the connection, and the link tries again. In states 7 and 8 CONGESTION and
-     * its end are told to the user and reported, its end is reported in state 5, and elsewhere both
-     * do nothing. FORCE_PROVING sets MPS_NORMAL; a mode counts from the next connection that comes
-     * up on. */
+     * its end are told to the user and reported, its end is reported in state 5 and Illegal in 6,
+     * and else both do nothing. FORCE_PROVING sets MPS_NORMAL; a mode counts from the next
+     * connection that comes up on. */
     SSCF_EVENT_PROVING_UNSUCCESSFUL = 32,      /*                                 .....6.. */
     SSCF_EVENT_RELEASE = 33,                   /*                                 12345678 */
     SSCF_EVENT_OUTAGE = 34,                    /* local processor outage          12345678 */
@@ -386,7 +387,7 @@ enum sscf_report_reason { /* octet 8 */
     SSCF_REPORT_REASON_SREC = 5,    /* SSCOP Recover */
     SSCF_REPORT_REASON_UDR = 6,     /* UNITDATA Received */
     SSCF_REPORT_REASON_PDUT = 7,    /* PDU Transmitted */
-    SSCF_REPORT_REASON_SSCOP_UU = 8 /* the peer's reason: its status code stands in octet 5 */
+    SSCF_REPORT_REASON_SSCOP_UU = 8 /* the peer's: its status code, or 0 for none, is octet 5 */
 };
 
 /*
@@ -417,8 +418,8 @@ enum sscf_report_reason { /* octet 8 */
  *   ESTABLISH_CONFIRM, RELEASE_INDICATION, DATA, RESYNC, RECOVER; in state 2 also the peer's call,
  *   ESTABLISH_INDICATION, that was on its way at START and STOP. RELEASE_CONFIRM is accepted after
  *   it.
- * - A call that the link turned down, in state 1 or 3, as the peer gave it up: RELEASE_INDICATION.
- *   A RELEASE_CONFIRM there is SSCOP's fault, see above.
+ * - A call that the link turned down, in state 1 or 3, as the peer gave it up: RELEASE_INDICATION,
+ *   before the next ESTABLISH_REQUEST. A RELEASE_CONFIRM there is SSCOP's fault, see above.
  * - What the user asks before it has heard: MESSAGE_FOR_TRANSMISSION as the link leaves service,
  *   STOP as it does so or is given up by T2, EMERGENCY and EMERGENCY_CEASES as it comes into
  *   service. A message that is refused has not been sent, and is still the user's.

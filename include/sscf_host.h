@@ -97,8 +97,8 @@ static inline uint32_t sscf_link_state(const uint8_t *table, uint32_t link)
 
 /*
  * Writes an event to the beginning of a buffer of `room` octets: a head with these fields, and a
- * copy of the message behind it. What the code does not carry is 0. The message may lie in the
- * buffer, also where it is to stand; with a length of 0 it may be NULL.
+ * copy of the message behind it. The caller gives 0 for what the code does not carry. The message
+ * may lie in the buffer, also where it is to stand; with a length of 0 it may be NULL.
  *
  * Answers the event's octets, SSCF_HEAD_OCTETS + length, for sscf_step. If a value is too large for
  * its field, or the event for the room, it answers 0 and writes nothing; an event of 0 octets is

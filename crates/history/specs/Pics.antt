@@ -1,4 +1,4 @@
--- Q.2140's Annex A, A.6: what each item asks of the SSCF, as theorems over the calls, on octets and after every sequence of calls. docs/PICS.md has the items
+-- Q.2140's Annex A, A.6: what each item but SNSP3 and SNSP4 asks of the SSCF, as theorems over the calls, on octets and after every sequence of calls. docs/PICS.md has the items
 -- with their answers.
 use Prim.Native.Nat.{ℕ, _+_, _≤_}
 use mathlib.Core.Path.{_≡_}

@@ -1,5 +1,5 @@
 -- Histories that the checker computes, on octets and through both calls, so that nobody has to wonder whether the demand is empty: three in which a link
--- comes into service, and for each condition of the demand one in which it fails and the link does not stand in service.
+-- comes into service, and for each condition of the demand one or more in which it fails and the link does not stand in service.
 use Prim.Native.Nat.{ℕ}
 use mathlib.Core.Path.{_≡_}
 use mathlib.Core.Bool.{Bool, true, false}

@@ -1,5 +1,6 @@
 -- Table 6 of Q.2140 as the paper prints it: a row an event, a cell a state, in each cell the actions in order and then the next state.
--- The columns of the table's second half stand beside those of its first. The readings of damaged places are in docs/DECISIONS.md.
+-- The columns of the table's second half stand beside those of its first. Some cells are not as printed: damaged places, those that the paper leaves to the
+-- implementation (D13), FLUSH_BUFFERS and CONTINUE (D8). docs/DECISIONS.md has the readings.
 use Rattle.table6.specs.Words.{–, OOS, PO, INS, NM, ANS, MI, PE, PNS, LR, RR, SR, ALN, CC, CD, SREC, UDR, PDUT, SSCOP-UU, Parameter-Data}
 use Rattle.table6.specs.Words.{1/1/1, 1/4/1, 2/1/2, 2/2/2, 2/4/2, 3/10/5, 2/10/3, 2/10/4}
 use Rattle.table6.specs.Cell.{Row, Illegal, to, _⨟_, _⨾_, IF_THEN_ELSE_, LPO=0, LPO=0&INS=0, LPO=0&INS=1, BSNT-available, MU>4}
