@@ -2,19 +2,17 @@
 use mathlib.Core.Path.{_≡_, refl, sym, ap, subst, _∙_}
 use mathlib.Core.Bool.{Bool, true, false, cond, _&&_, Bool·beq}
 use mathlib.Core.List.{List, [], _∷_, _++_}
-use Prim.Native.Nat.{ℕ, zero, suc, _≤_, _<_}
+use Prim.Native.Nat.{ℕ, _≤_, _<_}
 use native.Mathlib.Omega.{arith}
 use lib.Dec.{eqb}
-use lib.ListN.{getD}
 use borrow.Author.Tests.{eqb-true, eqb-false}
 use Rattle.table6.specs.declared.State.{State}
-use Rattle.table6.specs.declared.Facts.{Facts}
-use Rattle.table6.specs.Cell.{Act, holds, Row, cell, Choice, illegal, does, chosen}
-use Rattle.table6.specs.Rows.{Printed, one, two, printed, Heading, rows, nowhere, heading}
+use Rattle.table6.specs.Cell.{Act, cell, Choice, illegal, does, chosen}
+use Rattle.table6.specs.Rows.{printed, Heading, rows, heading}
 use Rattle.table6.specs.Stored.{met}
 use Rattle.table6.specs.Summary.{over, still, summary, sum}
-use Rattle.table6.specs.Every.{in-cell, in-states}
-use Rattle.table6.proofs.Every.{left, right, Holds, of-cell, of-states, no-row}
+use Rattle.table6.specs.Every.{behind-each}
+use Rattle.table6.proofs.Every.{left, right, Holds, of-heading}
 use Rattle.table6.proofs.Unfolded.{every-row}
 use Rattle.link.specs.declared.Link.{Link}
 use Rattle.link.specs.declared.Event.{Event}
@@ -43,40 +41,12 @@ keeps s acts next =
     let r = summary acts still in
     Bool·beq (over (r .t1) (T1-runs s)) (T1-runs next) && Bool·beq (over (r .t2) (T2-runs s)) (T2-runs next)
 
-abbrev in-row : List Act → Row → Bool
-in-row arrives r = in-states (λ s. in-cell (keeps s) arrives (cell r s))
+abbrev arriving : Heading → List Act
+arriving h = h .arrives
 
-abbrev in-printed : List Act → Printed → Bool
-in-printed arrives (one r) = in-row arrives r
-in-printed arrives (two q r w) = in-row arrives r && in-row arrives w
-
-abbrev in-rows : List Heading → Bool
-in-rows [] = true
-in-rows (h ∷ hs) = in-printed (h .arrives) (h .row) && in-rows hs
-
-table-keeps : in-rows rows ≡ true
+table-keeps : behind-each keeps arriving rows ≡ true
 unfolding every-row
 table-keeps = refl
-
--- FROM THE TEST TO A CHOICE
-module _ (s : State) (f : Facts) where
-  abbrev At : Heading → Type 0
-  At h = Holds (keeps s) (h .arrives) (chosen f (cell (printed f (h .row)) s))
-
-  of-row : (arrives : List Act) (r : Row) → in-row arrives r ≡ true → Holds (keeps s) arrives (chosen f (cell r s))
-  of-row arrives r h = of-cell (keeps s) arrives (cell r s) f (of-states (λ s. in-cell (keeps s) arrives (cell r s)) h s)
-
-  of-printed : (arrives : List Act) (p : Printed) → in-printed arrives p ≡ true → Holds (keeps s) arrives (chosen f (cell (printed f p) s))
-  of-printed arrives (one r) h = of-row arrives r h
-  of-printed arrives (two q r w) h = by (holds q f) where
-    by : (b : Bool) → Holds (keeps s) arrives (chosen f (cell (cond b r w) s))
-    by true = of-row arrives r (left (in-row arrives r) (in-row arrives w) h)
-    by false = of-row arrives w (right (in-row arrives r) (in-row arrives w) h)
-
-  of-rows : (hs : List Heading) → in-rows hs ≡ true → (row : ℕ) → At (getD hs row nowhere)
-  of-rows [] h row = rw (no-row f s) tt
-  of-rows (x ∷ hs) h zero = of-printed (x .arrives) (x .row) (left (in-printed (x .arrives) (x .row)) (in-rows hs) h)
-  of-rows (x ∷ hs) h (suc row) = of-rows hs (right (in-printed (x .arrives) (x .row)) (in-rows hs) h) row
 
 -- OF A LINK, AND OF A STEP
 pub record Timed (l : Link) : Type 0 where
@@ -101,7 +71,7 @@ module _ (l : Link) (v : Timed l) where
 
   of-view : (x : View) → Timed? (outcomeOf l (meetingOf x) (met (x .0) (l .state) (factsOf l x)))
   unfolding met
-  of-view x = of-choice (meetingOf x) (chosen (factsOf l x) (cell (printed (factsOf l x) (heading (x .0) .row)) (l .state))) (of-rows (l .state) (factsOf l x) rows table-keeps (x .0))
+  of-view x = of-choice (meetingOf x) (chosen (factsOf l x) (cell (printed (factsOf l x) (heading (x .0) .row)) (l .state))) (of-heading keeps arriving table-keeps (x .0) (l .state) (factsOf l x))
 
   of-step : (e : Event) → Timed? (stepOf l e)
   of-step e = subst Timed? (as-met l e) (of-view (viewOf e (l .c1)))

@@ -8,7 +8,7 @@ use Rattle.table6.specs.declared.State.{State}
 use Rattle.table6.specs.declared.Facts.{Facts}
 use Rattle.table6.specs.Cell.{Act, tell, alter, holds, Cell, Illegal, to, _⨟_, _⨾_, IF_THEN_ELSE_, Row, cell, Choice, illegal, does, after, chosen}
 use Rattle.table6.specs.Rows.{Printed, one, two, printed, Heading, rows, nowhere, heading}
-use Rattle.table6.specs.Every.{Test, in-cell, in-states, in-row, in-printed, in-rows, Every, stop, but-stop, start, but-start, expiry-of-T2, but-expiry-of-T2}
+use Rattle.table6.specs.Every.{Test, in-cell, in-states, in-row, in-printed, behind-each, in-rows, Every, stop, but-stop, start, but-start, expiry-of-T2, but-expiry-of-T2}
 use Rattle.table6.specs.Every.{five, one-message, in-service, out-of-service, not-told, release, response, proving, t1-set, t2-set, t2-not-set, t2-reset, given-up}
 use Rattle.table6.proofs.Unfolded.{every-row}
 
@@ -77,7 +77,7 @@ either : (t : List Act → State → Bool) (acts : List Act) (b : Bool) (x y : C
 either t acts true x y p q = p
 either t acts false x y p q = q
 
-pub of-cell : (t : List Act → State → Bool) (acts : List Act) (c : Cell) (f : Facts) → in-cell t acts c ≡ true → Holds t acts (chosen f c)
+of-cell : (t : List Act → State → Bool) (acts : List Act) (c : Cell) (f : Facts) → in-cell t acts c ≡ true → Holds t acts (chosen f c)
 of-cell t acts Illegal f h = tt
 of-cell t acts (to next) f h = rw append-nil h
 of-cell t acts (a ⨟ c) f h = one-more t acts (tell a) (chosen f c) (of-cell t (acts ++ tell a ∷ []) c f h)
@@ -92,7 +92,7 @@ left a b h = and-eq-true-iff a b .0 h .0
 pub right : (a b : Bool) → a && b ≡ true → b ≡ true
 right a b h = and-eq-true-iff a b .0 h .1
 
-pub of-states : (g : State → Bool) → in-states g ≡ true → (s : State) → g s ≡ true
+of-states : (g : State → Bool) → in-states g ≡ true → (s : State) → g s ≡ true
 of-states g h State.S111 = left (g State.S111) _ h
 of-states g h State.S141 = left (g State.S141) _ (right (g State.S111) _ h)
 of-states g h State.S212 = left (g State.S212) _ (right (g State.S141) _ (right (g State.S111) _ h))
@@ -102,16 +102,18 @@ of-states g h State.S2103 = left (g State.S2103) _ (right (g State.S242) _ (righ
 of-states g h State.S2104 = left (g State.S2104) _ (right (g State.S2103) _ (right (g State.S242) _ (right (g State.S222) _ (right (g State.S212) _ (right (g State.S141) _ (right (g State.S111) _ h))))))
 of-states g h State.S3105 = right (g State.S2104) _ (right (g State.S2103) _ (right (g State.S242) _ (right (g State.S222) _ (right (g State.S212) _ (right (g State.S141) _ (right (g State.S111) _ h))))))
 
-of-row : (t : Test) (r : Row) → in-row t r ≡ true → (s : State) (f : Facts) → Holds (t s) [] (chosen f (cell r s))
-of-row t r h s f = of-cell (t s) [] (cell r s) f (of-states (λ s. in-cell (t s) [] (cell r s)) h s)
+of-row : (t : Test) (acts : List Act) (r : Row) → in-row t acts r ≡ true → (s : State) (f : Facts) → Holds (t s) acts (chosen f (cell r s))
+of-row t acts r h s f = of-cell (t s) acts (cell r s) f (of-states (λ s. in-cell (t s) acts (cell r s)) h s)
 
-by-fact : (t : Test) (b : Bool) (r q : Row) → in-row t r ≡ true → in-row t q ≡ true → (s : State) (f : Facts) → Holds (t s) [] (chosen f (cell (cond b r q) s))
-by-fact t true r q p h s f = of-row t r p s f
-by-fact t false r q p h s f = of-row t q h s f
+by-fact : (t : Test) (acts : List Act) (b : Bool) (r q : Row) → in-row t acts r ≡ true → in-row t acts q ≡ true → (s : State) (f : Facts) →
+    Holds (t s) acts (chosen f (cell (cond b r q) s))
+by-fact t acts true r q p h s f = of-row t acts r p s f
+by-fact t acts false r q p h s f = of-row t acts q h s f
 
-of-printed : (t : Test) (p : Printed) → in-printed t p ≡ true → (s : State) (f : Facts) → Holds (t s) [] (chosen f (cell (printed f p) s))
-of-printed t (one r) h s f = of-row t r h s f
-of-printed t (two q r w) h s f = by-fact t (holds q f) r w (left (in-row t r) (in-row t w) h) (right (in-row t r) (in-row t w) h) s f
+of-printed : (t : Test) (acts : List Act) (p : Printed) → in-printed t acts p ≡ true → (s : State) (f : Facts) → Holds (t s) acts (chosen f (cell (printed f p) s))
+of-printed t acts (one r) h s f = of-row t acts r h s f
+of-printed t acts (two q r w) h s f =
+    by-fact t acts (holds q f) r w (left (in-row t acts r) (in-row t acts w) h) (right (in-row t acts r) (in-row t acts w) h) s f
 
 pub no-row : (f : Facts) (s : State) → cell (printed f (nowhere .row)) s ≡ Illegal
 no-row f State.S111 = refl
@@ -123,11 +125,16 @@ no-row f State.S2103 = refl
 no-row f State.S2104 = refl
 no-row f State.S3105 = refl
 
-of-rows : (t : Test) (hs : List Heading) → in-rows t hs ≡ true → (row : ℕ) (s : State) (f : Facts) → Holds (t s) [] (chosen f (cell (printed f (getD hs row nowhere .row)) s))
-of-rows t [] h row s f = rw (no-row f s) tt
-of-rows t (x ∷ hs) h zero s f = of-printed t (x .row) (left (in-printed t (x .row)) (in-rows t hs) h) s f
-of-rows t (x ∷ hs) h (suc row) s f = of-rows t hs (right (in-printed t (x .row)) (in-rows t hs) h) row s f
+of-each : (t : Test) (begins : Heading → List Act) (hs : List Heading) → behind-each t begins hs ≡ true → (row : ℕ) (s : State) (f : Facts) →
+    Holds (t s) (begins (getD hs row nowhere)) (chosen f (cell (printed f (getD hs row nowhere .row)) s))
+of-each t begins [] h row s f = rw (no-row f s) tt
+of-each t begins (x ∷ hs) h zero s f = of-printed t (begins x) (x .row) (left (in-printed t (begins x) (x .row)) (behind-each t begins hs) h) s f
+of-each t begins (x ∷ hs) h (suc row) s f = of-each t begins hs (right (in-printed t (begins x) (x .row)) (behind-each t begins hs) h) row s f
 
--- what every cell passes holds of what the facts choose, in any row and state
+-- what every cell passes, behind what its heading begins with, holds of what the facts choose, in any row and state
+pub of-heading : (t : Test) (begins : Heading → List Act) → behind-each t begins rows ≡ true → (row : ℕ) (s : State) (f : Facts) →
+    Holds (t s) (begins (heading row)) (chosen f (cell (printed f (heading row .row)) s))
+of-heading t begins h row s f = of-each t begins rows h row s f
+
 pub of-choice : (t : Test) → Every t → (row : ℕ) (s : State) (f : Facts) → Holds (t s) [] (chosen f (cell (printed f (heading row .row)) s))
-of-choice t h row s f = of-rows t rows h row s f
+of-choice t h row s f = of-heading t (λ h. []) h row s f

@@ -32,16 +32,20 @@ abbrev pub in-states : (State → Bool) → Bool
 in-states g =
     g State.S111 && (g State.S141 && (g State.S212 && (g State.S222 && (g State.S242 && (g State.S2103 && (g State.S2104 && g State.S3105))))))
 
-abbrev pub in-row : Test → Row → Bool
-in-row t r = in-states (λ s. in-cell (t s) [] (cell r s))
+abbrev pub in-row : Test → List Act → Row → Bool
+in-row t acts r = in-states (λ s. in-cell (t s) acts (cell r s))
 
-abbrev pub in-printed : Test → Printed → Bool
-in-printed t (one r) = in-row t r
-in-printed t (two q r s) = in-row t r && in-row t s
+abbrev pub in-printed : Test → List Act → Printed → Bool
+in-printed t acts (one r) = in-row t acts r
+in-printed t acts (two q r s) = in-row t acts r && in-row t acts s
+
+-- of several, each behind what its heading begins with
+abbrev pub behind-each : Test → (Heading → List Act) → List Heading → Bool
+behind-each t begins [] = true
+behind-each t begins (h ∷ hs) = in-printed t (begins h) (h .row) && behind-each t begins hs
 
 abbrev pub in-rows : Test → List Heading → Bool
-in-rows t [] = true
-in-rows t (h ∷ hs) = in-printed t (h .row) && in-rows t hs
+in-rows t = behind-each t (λ h. [])
 
 abbrev pub Every : Test → Type 0
 Every t = in-rows t rows ≡ true
