@@ -126,8 +126,8 @@
 extern "C" {
 #endif
 
-#define SSCF_VERSION "0.1.1"
-#define SSCF_VERSION_NUMBER 1001 /* 1,000,000 x 0 + 1,000 x 1 + 1 */
+#define SSCF_VERSION "0.2.0"
+#define SSCF_VERSION_NUMBER 2000 /* 1,000,000 x 0 + 1,000 x 2 + 0 */
 
 /* LIMITS */
 
@@ -482,6 +482,51 @@ struct sscf_answer sscf_step(uint8_t *table, size_t table_octets,
  * SSCF_VERSION_NUMBER. If the two differ, the header is not the one that belongs to the library.
  */
 uint32_t sscf_version(void);
+
+/*
+ * CHANGEOVER MESSAGES
+ */
+
+#define SSCF_CHANGEOVER_OCTETS 9
+
+/* The heading, octet 6 whole: H1 in its upper four bits, H0 = 1 in its lower. */
+enum sscf_changeover_heading {
+    SSCF_CHANGEOVER_XCO = 0x31, /* extended changeover order */
+    SSCF_CHANGEOVER_XCA = 0x41  /* extended changeover acknowledgement */
+};
+
+/* In place of SSCF_REFUSED_..., for the two calls here; in this order, as above. */
+enum sscf_changeover_refusal {
+    SSCF_CHANGEOVER_REFUSED_LENGTH = 1,  /* not nine octets: of the output, of the input */
+    SSCF_CHANGEOVER_REFUSED_HEADING = 2, /* neither XCO nor XCA */
+    SSCF_CHANGEOVER_REFUSED_SERVICE = 3, /* a service indicator other than 0 */
+    SSCF_CHANGEOVER_REFUSED_FIELD = 4    /* writing alone: a field too wide */
+};
+
+/* A changeover message, its fields in the order of their first bits. */
+struct sscf_changeover {
+    uint8_t sub_service; /* 0 to 15 */
+    uint8_t service;     /* service indicator, 0: signalling network management */
+    uint16_t dpc, opc;   /* point codes of destination and origin, 0 to 16,383 */
+    uint8_t slc;         /* signalling link code, 0 to 15 */
+    uint8_t heading;     /* SSCF_CHANGEOVER_XCO or SSCF_CHANGEOVER_XCA */
+    uint32_t number;     /* of the last message accepted, 0 to 16,777,215 */
+};
+
+/* What the reader answers. */
+struct sscf_changeover_answer {
+    uint32_t refusal;               /* SSCF_ACCEPTED or SSCF_CHANGEOVER_REFUSED_... */
+    struct sscf_changeover message; /* 0 in every field if refused */
+};
+
+/*
+ * Writes a message into an output of exactly nine octets. Answers SSCF_ACCEPTED or
+ * SSCF_CHANGEOVER_REFUSED_...; refused, it leaves the output as it was.
+ */
+uint32_t sscf_changeover_write(uint8_t *out, size_t out_octets, struct sscf_changeover message);
+
+/* Reads nine octets. */
+struct sscf_changeover_answer sscf_changeover_read(const uint8_t *octets, size_t count);
 
 #ifdef __cplusplus
 }
