@@ -23,12 +23,13 @@ use Rattle.signal.specs.SignalRecord.{signalOctets, joined}
 use Rattle.record.proofs.LinkRecord.{unpacked, octets-length}
 use Rattle.event.proofs.Frame.{message-length}
 use Rattle.signal.proofs.SignalRecord.{signals-apart}
-use Rattle.sscf.specs.Checks.{Verdict, passed, refused, first}
+use Rattle.sscf.specs.declared.checks.Refusal.{Refusal}
+use Rattle.unit.specs.Checks.{Verdict, passed, refused, first}
 use Rattle.sscf.specs.Step.{records, recordAt, linkFor, unknown, checks, Outcome, stepCall}
 use Rattle.sscf.specs.Fresh as maker
 use Rattle.sscf.specs.Fresh.{freshChecks, freshCall}
 use Rattle.sscf.specs.Untouched.{Written}
-use Rattle.sscf.proofs.Places.{clear}
+use Rattle.unit.proofs.Checks.{clear}
 use Rattle.sscf.proofs.Taken.{taken}
 use Rattle.sscf.proofs.Untouched.{either-way, number-above, refusals-untouched, same-lengths, others-untouched, accepted-written}
 use Rattle.sscf.proofs.Copies.{length-copies}
@@ -93,7 +94,7 @@ Good w = (k : ℕ) → k < records (w .table) → Kept (w .n1) (recordAt (w .tab
 pub made-length : (buffer : List ℕ) (n1 : ℕ) → freshCall buffer n1 .answer ≡ 0 → length (freshCall buffer n1 .table) ≡ 16 * records buffer
 unfolding freshCall
 made-length buffer n1 = by (first (freshChecks buffer n1)) where
-  by : (v : Verdict) → maker.made v buffer n1 .answer ≡ 0 → length (maker.made v buffer n1 .table) ≡ 16 * records buffer
+  by : (v : Verdict Refusal) → maker.made v buffer n1 .answer ≡ 0 → length (maker.made v buffer n1 .table) ≡ 16 * records buffer
   by (refused x) h = absurd (omega (arith, number-above x))
   by passed h = length-copies (records buffer) (octetsOf (freshLink n1)) (octets-length (freshLink n1))
 

@@ -42,12 +42,14 @@ use Rattle.event.specs.Frame.{EV, written, linkAt, codeAt, paramAt, numberAt, l
 use Rattle.event.specs.EventRecord.{framed, Coded, codedAt, codedIn, eventOf, misfit}
 use Rattle.event.proofs.Frame.{two-back, frame-reread}
 use Rattle.signal.specs.SignalRecord.{signalOctets}
-use Rattle.sscf.specs.Checks as checks
+use Rattle.sscf.specs.declared.checks.Refusal.{Refusal}
+use Rattle.unit.specs.Checks as checks
 use Rattle.sscf.specs.Step as call
 use Rattle.sscf.specs.Step.{badTable, records, recordAt, linkFor, unknown, idle, isIllegal, stepCall}
 use Rattle.sscf.specs.Fresh as maker
 use Rattle.sscf.specs.Fresh.{freshChecks, freshCall}
 use Rattle.sscf.specs.Untouched.{Written}
+use Rattle.unit.proofs.Checks as verdict
 use Rattle.sscf.proofs.Places as places
 use Rattle.sscf.proofs.Taken.{Makes, step-accepted}
 use Rattle.sscf.proofs.Untouched.{number-above, refusals-untouched, same-lengths, stays-well-formed, accepted-written}
@@ -90,7 +92,7 @@ module _ (w : World) (k c : ℕ) (l : Link) (e : List ℕ) (x : Event) (a : At w
 
   passes : checks.first (call.checks (w .table) e (length o)) ≡ checks.passed
   passes =
-      places.none (call.checks (w .table) e (length o))
+      verdict.none (call.checks (w .table) e (length o))
       (a .good, (ap not (f .sound), (f .known, (f .fits, (lt-leb (records (w .table)) (linkAt e) (a .inside), (ap not (a .formed), (rw (a .holds, f .code) r, (ap isIllegal makes, (le-ltb (length o) 4192 wide, tt)))))))))
 
   taken-so : stepCall (w .table) e o .answer .refusal ≡ 0
@@ -137,9 +139,9 @@ Sound w = (badTable (w .table) ≡ false) × ((k : ℕ) → k < records (w .tabl
 taken-buffer : (buffer : List ℕ) (n1 : ℕ) → freshCall buffer n1 .answer ≡ 0 → badTable buffer ≡ false
 unfolding freshCall
 taken-buffer buffer n1 = by (checks.first (freshChecks buffer n1)) refl where
-  by : (v : checks.Verdict) → checks.first (freshChecks buffer n1) ≡ v → maker.made v buffer n1 .answer ≡ 0 → badTable buffer ≡ false
+  by : (v : checks.Verdict Refusal) → checks.first (freshChecks buffer n1) ≡ v → maker.made v buffer n1 .answer ≡ 0 → badTable buffer ≡ false
   by (checks.refused x) p h = absurd (omega (arith, number-above x))
-  by checks.passed p h = places.clear (freshChecks buffer n1) p .0
+  by checks.passed p h = verdict.clear (freshChecks buffer n1) p .0
 
 made-sound : (buffer : List ℕ) (n1 : ℕ) → freshCall buffer n1 .answer ≡ 0 → Sound (made buffer n1)
 made-sound buffer n1 h =

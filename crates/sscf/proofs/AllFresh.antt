@@ -8,20 +8,20 @@ use lib.Dec.{eqb}
 use lib.ListN.{length, take, drop}
 use lib.Seq.{take-at, drop-at, drop-drop}
 use borrow.Author.Tests.{eqb-false}
+use Rattle.unit.specs.Checks.{Verdict, passed, refused, first}
+use Rattle.unit.proofs.Checks.{clear}
 use Rattle.link.specs.Fresh.{freshLink}
 use Rattle.record.specs.LinkRecord.{wellFormed, octetsOf}
 use Rattle.record.proofs.LinkRecord.{octets-length, packed-well}
 use Rattle.sscf.specs.declared.checks.Refusal.{Refusal}
-use Rattle.sscf.specs.Checks.{Verdict, passed, refused, first}
 use Rattle.sscf.specs.Step.{records, recordAt}
 use Rattle.sscf.specs.Fresh.{freshChecks, Made, copies, made, freshCall}
 use Rattle.sscf.specs.Untouched.{FreshRefusalsUntouched, AllFresh, FreshWellFormed}
-use Rattle.sscf.proofs.Places.{clear}
 use Rattle.sscf.proofs.Untouched.{number-above}
 
 -- a table is refused, or it is made
 module _ (t : List ℕ) (n1 : ℕ) (P : Made → Type 0) (r : (x : Refusal) → P (made (refused x) t n1)) (a : first (freshChecks t n1) ≡ passed → P (made passed t n1)) where
-  by-verdict : (v : Verdict) → first (freshChecks t n1) ≡ v → P (made v t n1)
+  by-verdict : (v : Verdict Refusal) → first (freshChecks t n1) ≡ v → P (made v t n1)
   by-verdict (refused x) h = r x
   by-verdict passed h = a h
 

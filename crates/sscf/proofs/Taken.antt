@@ -6,6 +6,8 @@ use Prim.Native.Nat.{ℕ, _*_, _≤_, _<_}
 use native.Mathlib.Omega.{arith}
 use lib.ListN.{length}
 use borrow.Author.Tests.{ltb-false, leb-false, not-false}
+use Rattle.unit.specs.Checks.{passed, refused, first}
+use Rattle.unit.proofs.Checks.{clear}
 use Rattle.link.specs.declared.Link.{Link}
 use Rattle.link.specs.declared.Signal.{Signal}
 use Rattle.link.specs.Step as machine
@@ -19,9 +21,7 @@ use Rattle.signal.specs.SignalRecord.{joined}
 use Rattle.event.proofs.Frame.{sound, message-length}
 use Rattle.signal.proofs.SignalRecord.{joined-small}
 use Rattle.sscf.specs.declared.checks.Refusal.{Refusal}
-use Rattle.sscf.specs.Checks.{passed, refused, first}
 use Rattle.sscf.specs.Step.{records, linkFor, checks, answered, answering, refusedBy, stepCall}
-use Rattle.sscf.proofs.Places.{clear}
 
 pub record Taken (t e : List ℕ) (room : ℕ) : Type 0 where
   pub sound : framed e ≡ true

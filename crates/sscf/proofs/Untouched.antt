@@ -8,6 +8,8 @@ use native.Mathlib.Omega.{arith}
 use lib.Dec.{eqb, ltb}
 use lib.ListN.{length, take, drop}
 use borrow.Author.Tests.{eqb-true, eqb-false, ltb-true, ltb-false, le-ltb}
+use Rattle.unit.specs.Checks.{Verdict, passed, refused, first}
+use Rattle.unit.proofs.Checks.{clear, none}
 use Rattle.link.specs.declared.Link.{Link}
 use Rattle.link.specs.declared.Signal.{Signal}
 use Rattle.link.specs.Step as machine
@@ -19,10 +21,10 @@ use Rattle.signal.specs.SignalRecord.{joined}
 use Rattle.octet.proofs.Over.{length-over, over-front, over-rest, length-put, put-there, put-before, put-after}
 use Rattle.record.proofs.LinkRecord.{octets-length, packed-well, unpacked-good}
 use Rattle.sscf.specs.declared.checks.Refusal.{Refusal}
-use Rattle.sscf.specs.Checks.{number, Verdict, passed, refused, first}
+use Rattle.sscf.specs.Checks.{number}
 use Rattle.sscf.specs.Step.{recordAt, linkFor, checks, Outcome, answered, answering, refusedBy, performed, outcome, stepCall}
 use Rattle.sscf.specs.Untouched.{RefusalsUntouched, OthersUntouched, RestUntouched, AtMost4192, SameLengths, Refused4191, Taken4192, Written, AcceptedWritten, StaysWellFormed}
-use Rattle.sscf.proofs.Places.{inside, clear, none}
+use Rattle.sscf.proofs.Places.{inside}
 use Rattle.sscf.proofs.Taken.{taken, Makes, made-after, room-for, step-accepted}
 
 -- what an accepted step comes to
@@ -38,7 +40,7 @@ module _ (t e o : List ℕ) (P : Outcome → Type 0) (r : (x : Refusal) → P (r
   by-cell machine.Illegal h p = r Refusal.Cell
   by-cell (machine.Legal next signals) h p = a next signals p h
 
-  by-verdict : (v : Verdict) → first (checks t e (length o)) ≡ v → P (outcome v t e o)
+  by-verdict : (v : Verdict Refusal) → first (checks t e (length o)) ≡ v → P (outcome v t e o)
   by-verdict (refused x) h = r x
   by-verdict passed h = by-cell (machine.stepOf (linkFor t e) (eventOf e)) refl h
 

@@ -2,14 +2,15 @@
 use Prim.Native.Nat.{ℕ, zero, suc}
 use mathlib.Core.List.{List, [], _∷_, _++_}
 use lib.Dec.{eqb}
+use Rattle.unit.specs.Checks.{Check, _if_, Verdict, passed, refused, first}
 use Rattle.link.specs.Fresh.{freshLink}
 use Rattle.record.specs.LinkRecord.{octetsOf}
 use Rattle.sscf.specs.declared.checks.Refusal.{Refusal}
-use Rattle.sscf.specs.Checks.{number, Check, _if_, Verdict, passed, refused, first}
+use Rattle.sscf.specs.Checks.{number}
 use Rattle.sscf.specs.Step.{badTable, records}
 
 -- "It refuses by 1 as above, then by 4 if n1 is 0, leaving the buffer untouched."
-abbrev pub freshChecks : List ℕ → ℕ → List Check
+abbrev pub freshChecks : List ℕ → ℕ → List (Check Refusal)
 freshChecks t n1 = (Refusal.Table if badTable t) ∷ (Refusal.Field if eqb n1 0) ∷ []
 
 pub record Made : Type 0 where
@@ -24,7 +25,7 @@ abbrev pub copies : ℕ → List ℕ → List ℕ
 copies zero r = []
 copies (suc n) r = r ++ copies n r
 
-abbrev pub made : Verdict → List ℕ → ℕ → Made
+abbrev pub made : Verdict Refusal → List ℕ → ℕ → Made
 made (refused r) t n1 = making (number r) t
 made passed t n1 = making 0 (copies (records t) (octetsOf (freshLink n1)))
 

@@ -4,6 +4,7 @@ use mathlib.Core.Bool.{Bool, true, false, not, _&&_, _||_}
 use mathlib.Core.List.{List, [], _∷_}
 use lib.Dec.{eqb, leb, ltb}
 use lib.ListN.{length, take, drop}
+use Rattle.unit.specs.Checks.{Check, _if_, Verdict, passed, refused, first}
 use Rattle.table6.specs.EventCodes.{T1-expired, T2-expired, T3-expired}
 use Rattle.link.specs.declared.Link.{Link}
 use Rattle.link.specs.Step as machine
@@ -14,7 +15,7 @@ use Rattle.event.specs.EventRecord.{framed, Coded, codedIn, eventOf, misfit}
 use Rattle.signal.specs.SignalRecord.{joined}
 use Rattle.sscf.specs.declared.Answer.{Answer}
 use Rattle.sscf.specs.declared.checks.Refusal.{Refusal}
-use Rattle.sscf.specs.Checks.{number, Check, _if_, Verdict, passed, refused, first}
+use Rattle.sscf.specs.Checks.{number}
 
 -- THE TABLE
 
@@ -57,7 +58,7 @@ linkFor t e = linkOf (recordAt t (linkAt e))
 abbrev pub outputOctets : ℕ
 outputOctets = 8 * headOctets + messageOctets
 
-abbrev pub checks : List ℕ → List ℕ → ℕ → List Check
+abbrev pub checks : List ℕ → List ℕ → ℕ → List (Check Refusal)
 checks t e room =
     (Refusal.Table if badTable t)
     ∷ (Refusal.Frame if not (framed e))
@@ -93,7 +94,7 @@ performed machine.Illegal t k m o = refusedBy Refusal.Cell t o
 performed (machine.Legal next signals) t k m o =
     answering (answered 0 (length (joined k m signals)) (length signals)) (putAt t (recordOctets * k) (octetsOf next)) (over (joined k m signals) o)
 
-abbrev pub outcome : Verdict → List ℕ → List ℕ → List ℕ → Outcome
+abbrev pub outcome : Verdict Refusal → List ℕ → List ℕ → List ℕ → Outcome
 outcome (refused r) t e o = refusedBy r t o
 outcome passed t e o = performed (machine.stepOf (linkFor t e) (eventOf e)) t (linkAt e) (messageOf e) o
 

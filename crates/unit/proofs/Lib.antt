@@ -1,3 +1,4 @@
 pub mod Unit
 pub mod Proving
 pub mod OneAnswer
+pub mod Checks

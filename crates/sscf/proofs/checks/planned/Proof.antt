@@ -5,14 +5,15 @@ use mathlib.Core.List.{List}
 use Prim.Native.Nat.{ℕ}
 use lib.ListN.{drop}
 use borrow.Author.Needs.{needs}
+use Rattle.unit.specs.Checks.{Check, first}
 use Rattle.event.specs.EventRecord.{Coded, reading}
 use Rattle.event.specs.declared.Reading.{Reading}
 use Rattle.event.specs.Frame.{EV}
 use Rattle.event.proofs.Frame.{sound}
 use Rattle.event.proofs.EventRecord.{coded, ToldOf, reading-tells}
 use Rattle.sscf.specs.declared.checks.Plan.{Plan}
+use Rattle.sscf.specs.declared.checks.Refusal.{Refusal}
 use Rattle.sscf.specs.Step.{badTable, unknown, checks}
-use Rattle.sscf.specs.Checks.{Check, first}
 use Rattle.sscf.specs.Plan.{Planned}
 use Rattle.sscf.proofs.checks.planned.Statement.{statement}
 use Rattle.sscf.proofs.checks.planned.Tie as tie
@@ -22,7 +23,7 @@ code-unknown Coded.Unknown b h = ap not h
 code-unknown (Coded.Of e) b h = ap not h
 
 -- past checks 1 to 4 those that are left decide
-left : (cs : List Check) (t e : List ℕ) (r : Plan) → first cs ≡ first (drop 4 cs) → Planned (drop 4 cs) t e r → Planned cs t e r
+left : (cs : List (Check Refusal)) (t e : List ℕ) (r : Plan) → first cs ≡ first (drop 4 cs) → Planned (drop 4 cs) t e r → Planned cs t e r
 left cs t e (Plan.Refused x) h p = h ∙ p
 left cs t e (Plan.Go l next said) h p = (h ∙ p .0, p .1, p .2)
 

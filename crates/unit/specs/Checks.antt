@@ -1,0 +1,20 @@
+-- Checks in order, each with its refusal: the first that holds refuses.
+use mathlib.Core.Bool.{Bool, cond}
+use mathlib.Core.List.{List, [], _∷_}
+
+-- A refusal, given exactly if its test holds and none before it does.
+pub record Check (R : Type 0) : Type 0 where
+  pub refusal : R
+  pub holds : Bool
+
+infixl 20 _if_
+abbrev pub _if_ : {R : Type 0} → R → Bool → Check R
+r if b = record { refusal = r; holds = b }
+
+pub data Verdict (R : Type 0) : Type 0 where
+  passed : Verdict R
+  refused : R → Verdict R
+
+abbrev pub first : {R : Type 0} → List (Check R) → Verdict R
+first [] = passed
+first (c ∷ others) = cond (c .holds) (refused (c .refusal)) (first others)
