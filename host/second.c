@@ -1,7 +1,8 @@
 /*
- * The second machine: the whole of both calls, written by cases from the printed Table 6 of Q.2140
- * so that the library has something independent to be compared with and a yardstick for its speed.
- * It shares no table, constant or line with the library.
+ * The second machine: the step and the fresh table, written by cases from the printed Table 6 of
+ * Q.2140, and the changeover messages, written from figure 3 of Q.2210, so that the library has
+ * something independent to be compared with and a yardstick for its speed. It shares no table,
+ * constant or line with the library.
  */
 #include "second.h"
 
@@ -878,4 +879,105 @@ uint32_t second_fresh(uint8_t *table, size_t table_octets, uint16_t n1)
         link[N1 + 1] = (uint8_t)n1;
     }
     return 0;
+}
+
+/*
+ * Changeover messages, figure 3 of Q.2210. By clause 9.6 a field begins with its lowest bit, in the
+ * lowest place of its first octet. So octets 2 to 9 are one number, low octet first, in which every
+ * field is of one piece; on the right is where in that number it begins.
+ *
+ *     bit  8   7   6   5   4   3   2   1    octet
+ *        |  sub-service  |    service    |    1
+ *        |              DPC              |    2     DPC at 0
+ *        |  OPC  |          DPC          |    3     OPC at 14
+ *        |              OPC              |    4
+ *        |      SLC      |      OPC      |    5     SLC at 28
+ *        |      H1       |      H0       |    6     heading at 32
+ *        |            number             |    7     number at 40
+ *        |            number             |    8
+ *        |            number             |    9
+ */
+enum { DPC_AT = 0, OPC_AT = 14, SLC_AT = 28, HEADING_AT = 32, NUMBER_AT = 40 };
+
+/* The length, and where octet 1, octets 2 to 9 and octet 6 of the figure stand, counted from 0. */
+enum { CHANGEOVER = 9, SERVICES = 0, REST = 1, HEADING = 5 };
+
+/* The headings: H1 of the order and of its acknowledgement, above H0 = 1. */
+enum { XCO = 0x31, XCA = 0x41 };
+
+/* Ones in so many bits: the largest value of a field of that width, and its mask. */
+enum { BITS_4 = 0xf, BITS_14 = 0x3fff, BITS_24 = 0xffffff };
+
+/*
+ * Low octet first, unlike the numbers in the records above. By way of an array, so that gcc stores
+ * all eight at once and does not join seven of them to the octet before.
+ */
+static void put_eight(uint8_t *at, uint64_t number)
+{
+    uint8_t octets[8] = {
+        (uint8_t)number, (uint8_t)(number >> 8), (uint8_t)(number >> 16), (uint8_t)(number >> 24),
+        (uint8_t)(number >> 32), (uint8_t)(number >> 40), (uint8_t)(number >> 48), (uint8_t)(number >> 56),
+    };
+
+    memcpy(at, octets, sizeof octets);
+}
+
+static bool bad_heading(unsigned heading)
+{
+    return heading != XCO && heading != XCA;
+}
+
+static bool too_wide(struct second_changeover message)
+{
+    return message.sub_service > BITS_4 || message.dpc > BITS_14 || message.opc > BITS_14
+        || message.slc > BITS_4 || message.number > BITS_24;
+}
+
+uint32_t second_changeover_write(uint8_t *out, size_t out_octets, struct second_changeover message)
+{
+    if (out_octets != CHANGEOVER)
+        return 1;
+    if (bad_heading(message.heading))
+        return 2;
+    if (message.service != 0)
+        return 3;
+    if (too_wide(message))
+        return 4;
+    out[SERVICES] = (uint8_t)(message.sub_service << 4 | message.service);
+    put_eight(out + REST, (uint64_t)message.dpc << DPC_AT
+                        | (uint64_t)message.opc << OPC_AT
+                        | (uint64_t)message.slc << SLC_AT
+                        | (uint64_t)message.heading << HEADING_AT
+                        | (uint64_t)message.number << NUMBER_AT);
+    return 0;
+}
+
+static struct second_changeover_answer refuse_message(uint32_t number)
+{
+    struct second_changeover_answer answer = { number, { 0, 0, 0, 0, 0, 0, 0 } };
+
+    return answer;
+}
+
+struct second_changeover_answer second_changeover_read(const uint8_t *octets, size_t count)
+{
+    struct second_changeover_answer answer = { 0, { 0, 0, 0, 0, 0, 0, 0 } };
+    uint64_t rest;
+
+    if (count != CHANGEOVER)
+        return refuse_message(1);
+    if (bad_heading(octets[HEADING]))
+        return refuse_message(2);
+    if ((octets[SERVICES] & BITS_4) != 0)
+        return refuse_message(3);
+    rest = octets[1] | (uint64_t)octets[2] << 8 | (uint64_t)octets[3] << 16 | (uint64_t)octets[4] << 24
+         | (uint64_t)octets[5] << 32 | (uint64_t)octets[6] << 40 | (uint64_t)octets[7] << 48
+         | (uint64_t)octets[8] << 56;
+    answer.message.sub_service = octets[SERVICES] >> 4;
+    answer.message.dpc = rest >> DPC_AT & BITS_14;
+    answer.message.opc = rest >> OPC_AT & BITS_14;
+    answer.message.slc = rest >> SLC_AT & BITS_4;
+    answer.message.heading = octets[HEADING];
+    answer.message.number = (uint32_t)(rest >> NUMBER_AT);
+    return answer;
 }
