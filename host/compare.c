@@ -7,13 +7,14 @@
  */
 #include <sscf_host.h>
 
+#include "compare.h"
 #include "second.h"
 
 #include <stdio.h>
 #include <stdlib.h>
 #include <string.h>
 
-enum { RECORD = SSCF_LINK_OCTETS, HEAD = SSCF_HEAD_OCTETS, UNIT = SSCF_UNIT_OCTETS, GUARD = 16 };
+enum { RECORD = SSCF_LINK_OCTETS, HEAD = SSCF_HEAD_OCTETS, UNIT = SSCF_UNIT_OCTETS };
 enum { ROOM = SSCF_OUTPUT_OCTETS, LONGEST = 4096 }; /* the longest table and the longest message are of one length */
 
 enum { ALL_TIMERS = SSCF_TIMER_T1 | SSCF_TIMER_T2 | SSCF_TIMER_T3 };
@@ -34,31 +35,6 @@ static unsigned long calls, into_service, out_of_service;
 static unsigned long step_refusals[10], fresh_refusals[10];
 
 /*
- * Numbers drawn: the same ones from the same seed on every machine (xorshift64*), for which no
- * expression draws two of them without an order.
- */
-
-static uint64_t drawn;
-
-static uint32_t draw(void)
-{
-    drawn ^= drawn >> 12;
-    drawn ^= drawn << 25;
-    drawn ^= drawn >> 27;
-    return (uint32_t)(drawn * UINT64_C(2685821657736338717) >> 32);
-}
-
-static uint32_t below(uint32_t end)
-{
-    return draw() % end;
-}
-
-static int one_in(uint32_t n)
-{
-    return below(n) == 0;
-}
-
-/*
  * The buffers of one side: guard, table, guard, event, guard, output, guard, close together, so
  * that an octet too many is seen. Both sides hold the same octets before every call.
  */
@@ -69,20 +45,6 @@ struct side {
 };
 
 static struct side library, second;
-
-static uint8_t *put_guard(uint8_t *at)
-{
-    memset(at, 0xC3, GUARD);
-    return at + GUARD;
-}
-
-static int guard_broken(const uint8_t *at)
-{
-    static const uint8_t whole[GUARD] = { 0xC3, 0xC3, 0xC3, 0xC3, 0xC3, 0xC3, 0xC3, 0xC3,
-                                          0xC3, 0xC3, 0xC3, 0xC3, 0xC3, 0xC3, 0xC3, 0xC3 };
-
-    return memcmp(at, whole, GUARD) != 0;
-}
 
 /*
  * The old octets of the output change from call to call, so that one written as it was before does
@@ -114,28 +76,6 @@ static int same_memory(const struct call *c)
         && !guard_broken(library.table + c->table_octets)
         && !guard_broken(library.event + c->event_octets)
         && !guard_broken(library.out + c->out_octets);
-}
-
-/* A difference is told so that it can be seen again. */
-
-static void print_hex(const uint8_t *at, size_t octets)
-{
-    size_t n;
-
-    for (n = 0; n < octets; n++)
-        printf("%02x%s", at[n], n + 1 == octets || n % 32 == 31 ? "\n" : "");
-}
-
-static void print_first_octet(const char *name, const uint8_t *a, const uint8_t *b, size_t octets)
-{
-    size_t n;
-
-    for (n = 0; n < octets; n++) {
-        if (a[n] != b[n]) {
-            printf("%s, octet %lu: library %u, second %u\n", name, (unsigned long)n, a[n], b[n]);
-            return;
-        }
-    }
 }
 
 static void print_memory(const struct call *c)
@@ -830,36 +770,12 @@ static void histories(unsigned long count)
     }
 }
 
-/*
- * That there is no difference says little of an answer that was never given. `wanted` has a bit for
- * each refusal that the call can answer, 0 among them.
- */
-static int never_seen(const char *name, const unsigned long *refusals, unsigned wanted)
-{
-    int missing = 0;
-    unsigned n;
-
-    printf("%s, times each refusal was answered:", name);
-    for (n = 0; n < 10; n++) {
-        if (!(wanted >> n & 1))
-            continue;
-        printf("%s %u: %lu", n > 0 ? "," : "", n, refusals[n]);
-        missing |= refusals[n] == 0;
-    }
-    printf("\n");
-    if (missing)
-        printf("%s: one was never seen\n", name);
-    return missing;
-}
-
 int main(int argc, char **argv)
 {
     unsigned long count = argc > 2 ? strtoul(argv[2], NULL, 0) : 1000000, before;
     int failed;
 
-    /* xorshift never leaves 0. */
-    drawn = argc > 1 ? strtoul(argv[1], NULL, 0) : 2140;
-    drawn = drawn * UINT64_C(0x9E3779B97F4A7C15) | 1;
+    seed(argc > 1 ? strtoul(argv[1], NULL, 0) : 2140);
     add_all_kinds();
     every_cell();
     printf("cells: %lu calls\n", calls);

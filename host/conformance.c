@@ -1,7 +1,8 @@
 /*
  * A test of conformance: it makes the calls and checks every octet of what comes back, where all
- * is well and where it is not. What it expects is written down from Q.2140's Table 6 and the
- * layouts in sscf.h; nothing of it is taken from the library.
+ * is well and where it is not. What it expects is written down from Q.2140's Table 6, from Q.2210's
+ * figures for the changeover messages, and from the layouts in sscf.h; nothing of it is taken from
+ * the library.
  */
 #include <sscf_host.h>
 
@@ -832,13 +833,263 @@ static void several_wrong(void)
     }
 }
 
+/*
+ * Changeover messages: Q.2210's figure 3, with figure 2 and clause 9.6 for the order of octets and
+ * bits. They are written to `out`, and read from `event`.
+ */
+
+static int same_fields(struct sscf_changeover a, struct sscf_changeover b)
+{
+    return a.sub_service == b.sub_service && a.service == b.service && a.dpc == b.dpc &&
+           a.opc == b.opc && a.slc == b.slc && a.heading == b.heading && a.number == b.number;
+}
+
+/* Until told otherwise, nine octets are lent for either. */
+static void set_up_changeover(void)
+{
+    set_up(0);
+    out_octets = event_octets = SSCF_CHANGEOVER_OCTETS;
+}
+
+/* The octets are those that an accepted message comes to; refused, the output stays as it was. */
+static void write_is(struct sscf_changeover fields, uint32_t refusal, const uint8_t *octets,
+                     int line)
+{
+    uint32_t answer;
+
+    want_nothing();
+    if (refusal == SSCF_ACCEPTED)
+        memcpy(want.out, octets, SSCF_CHANGEOVER_OCTETS);
+    answer = sscf_changeover_write(lent(now.out, out_octets), out_octets, fields);
+    check(answer == refusal, "the refusal is the one expected", line);
+    check(memcmp(&now, &want, sizeof now) == 0, "the buffers are as expected", line);
+}
+
+/* The fields are those of an accepted message; refused, every field is 0. */
+static void read_is(const uint8_t *octets, uint32_t refusal, struct sscf_changeover fields,
+                    int line)
+{
+    static const struct sscf_changeover zeros;
+    struct sscf_changeover_answer answer;
+
+    memcpy(now.event, octets, SSCF_CHANGEOVER_OCTETS);
+    want_nothing();
+    answer = sscf_changeover_read(lent(now.event, event_octets), event_octets);
+    check(answer.refusal == refusal, "the refusal is the one expected", line);
+    check(same_fields(answer.message, refusal == SSCF_ACCEPTED ? fields : zeros),
+          "the fields are those expected", line);
+    check(memcmp(&now, &want, sizeof now) == 0, "the buffers are as expected", line);
+}
+
+static void both_ways_are(struct sscf_changeover fields, uint32_t refusal, const uint8_t *octets,
+                          int line)
+{
+    write_is(fields, refusal, octets, line);
+    read_is(octets, refusal, fields, line);
+}
+
+#define WRITE(fields, refusal, octets) write_is((fields), (refusal), (octets), __LINE__)
+#define READ(octets, refusal, fields) read_is((octets), (refusal), (fields), __LINE__)
+#define BOTH_WAYS(fields, refusal, octets) both_ways_are((fields), (refusal), (octets), __LINE__)
+
+/* A message as Wireshark reads it, and with everything at its greatest. */
+static const struct sscf_changeover xco = {8, 0, 4660, 13602, 5, 0x31, 197121};
+static const uint8_t xco_octets[9] = {0x80, 0x34, 0x92, 0x48, 0x5d, 0x31, 0x01, 0x02, 0x03};
+static const struct sscf_changeover xca = {15, 0, 16383, 16383, 15, 0x41, 16777215};
+static const uint8_t xca_octets[9] = {0xf0, 0xff, 0xff, 0xff, 0xff, 0x41, 0xff, 0xff, 0xff};
+
+static void changeovers(void)
+{
+    set_up_changeover();
+    CHECK(SSCF_CHANGEOVER_OCTETS == 9);
+    CHECK(SSCF_CHANGEOVER_XCO == 0x31 && SSCF_CHANGEOVER_XCA == 0x41);
+    BOTH_WAYS(xco, 0, xco_octets);
+    BOTH_WAYS(xca, 0, xca_octets);
+}
+
+enum field { SUB_SERVICE, DPC, OPC, SLC, NUMBER };
+
+static struct sscf_changeover with(struct sscf_changeover fields, enum field field, uint32_t value)
+{
+    switch (field) {
+    case SUB_SERVICE:
+        fields.sub_service = (uint8_t)value;
+        break;
+    case DPC:
+        fields.dpc = (uint16_t)value;
+        break;
+    case OPC:
+        fields.opc = (uint16_t)value;
+        break;
+    case SLC:
+        fields.slc = (uint8_t)value;
+        break;
+    default:
+        fields.number = value;
+    }
+    return fields;
+}
+
+/* Each bit of the figure by itself, among zeros and as the one 0 among ones. */
+static void changeover_bits(void)
+{
+    static const struct {
+        enum field field;
+        uint8_t from;       /* a bit of the field, 0 its lowest; more follow, upwards in both */
+        uint8_t octet, bit; /* where the figure has it, counted from 1 as there */
+        uint8_t bits;
+    } parts[] = {
+        {SUB_SERVICE, 0, 1, 5, 4}, {DPC, 0, 2, 1, 8},    {DPC, 8, 3, 1, 6},
+        {OPC, 0, 3, 7, 2},         {OPC, 2, 4, 1, 8},    {OPC, 10, 5, 1, 4},
+        {SLC, 0, 5, 5, 4},         {NUMBER, 0, 7, 1, 8}, {NUMBER, 8, 8, 1, 8},
+        {NUMBER, 16, 9, 1, 8}
+    };
+    static const struct sscf_changeover none = {0, 0, 0, 0, 0, 0x31, 0};
+    static const uint8_t none_octets[9] = {0, 0, 0, 0, 0, 0x31, 0, 0, 0};
+    static const uint32_t greatest[] = {15, 16383, 16383, 15, 16777215};
+    unsigned part, i;
+
+    set_up_changeover();
+    for (part = 0; part < sizeof parts / sizeof *parts; part++)
+        for (i = 0; i < parts[part].bits; i++) {
+            const enum field field = parts[part].field;
+            const uint32_t value = (uint32_t)1 << (parts[part].from + i);
+            const unsigned at = parts[part].octet - 1u;
+            uint8_t octets[9];
+
+            turn = 10 * part + i;
+            memcpy(octets, none_octets, 9);
+            octets[at] ^= (uint8_t)(1u << (parts[part].bit - 1 + i));
+            BOTH_WAYS(with(none, field, value), 0, octets);
+            memcpy(octets, xca_octets, 9);
+            octets[at] ^= (uint8_t)(1u << (parts[part].bit - 1 + i));
+            BOTH_WAYS(with(xca, field, greatest[field] - value), 0, octets);
+        }
+}
+
+/* Refusal 4: each field one above its greatest, and at the greatest that its type has. */
+static void changeover_widths(void)
+{
+    static const struct {
+        enum field field;
+        uint32_t greatest, most;
+    } widths[] = {{SUB_SERVICE, 15, 0xff}, {DPC, 16383, 0xffff}, {OPC, 16383, 0xffff},
+                  {SLC, 15, 0xff}, {NUMBER, 16777215, 0xffffffff}};
+    unsigned i;
+
+    set_up_changeover();
+    for (i = 0; i < sizeof widths / sizeof *widths; i++) {
+        turn = i;
+        WRITE(with(xco, widths[i].field, widths[i].greatest + 1), 4, NULL);
+        WRITE(with(xco, widths[i].field, widths[i].most), 4, NULL);
+        WRITE(with(xca, widths[i].field, widths[i].greatest), 0, xca_octets);
+    }
+}
+
+/* Refusal 1. The one below, the one above, none at all, and some that end in the octet of nine. */
+static void changeover_lengths(void)
+{
+    static const size_t lengths[] = {0, 1, 2, 3, 4, 5, 6, 7, 8, 10, 11, 12, 18, 256 + 9, 4096 + 9};
+    size_t i;
+
+    set_up_changeover();
+    for (i = 0; i < sizeof lengths / sizeof *lengths; i++) {
+        turn = i;
+        out_octets = event_octets = lengths[i];
+        BOTH_WAYS(xco, 1, xco_octets);
+    }
+    out_octets = event_octets = 9;
+    BOTH_WAYS(xco, 0, xco_octets);
+}
+
+/* Refusals 2 and 3: every heading and every service indicator, by itself. */
+static void changeover_headings_and_services(void)
+{
+    unsigned value;
+
+    for (value = 0; value < 256; value++) {
+        struct sscf_changeover fields = xco;
+        uint8_t octets[9];
+
+        turn = value;
+        set_up_changeover();
+        memcpy(octets, xco_octets, 9);
+        fields.heading = octets[5] = (uint8_t)value;
+        BOTH_WAYS(fields, value == 0x31 || value == 0x41 ? 0 : 2, octets);
+
+        fields = xco;
+        fields.service = (uint8_t)value;
+        set_up_changeover();
+        WRITE(fields, value == 0 ? 0 : 3, xco_octets);
+        memcpy(octets, xco_octets, 9);
+        octets[0] = (uint8_t)value;
+        fields.service = 0;
+        fields.sub_service = (uint8_t)(value >> 4);
+        READ(octets, value % 16 == 0 ? 0 : 3, fields);
+    }
+}
+
+/* Reading refuses nothing else, and what was read is written as the same octets. */
+static void every_changeover_octet(void)
+{
+    unsigned at, value;
+
+    for (at = 0; at < 9; at++)
+        for (value = 0; value < 256; value += at == 0 ? 16 : 1) {
+            uint8_t octets[9];
+            struct sscf_changeover_answer answer;
+
+            if (at == 5 && value != 0x31 && value != 0x41)
+                continue;
+            turn = 1000 * at + value;
+            set_up_changeover();
+            memcpy(octets, xco_octets, 9);
+            octets[at] = (uint8_t)value;
+            answer = sscf_changeover_read(octets, 9);
+            CHECK(answer.refusal == 0);
+            WRITE(answer.message, 0, octets);
+        }
+}
+
+/* Several things wrong at once, each of the fields in turn being too wide: the lowest number is
+ * answered. A field too wide cannot be read. */
+static void changeover_several_wrong(void)
+{
+    unsigned wrong, field, lowest;
+
+    for (wrong = 1; wrong < 1u << 4; wrong++)
+        for (field = SUB_SERVICE; field <= NUMBER; field++) {
+            struct sscf_changeover fields = xco;
+            uint8_t octets[9];
+
+            turn = 10 * wrong + field;
+            set_up_changeover();
+            memcpy(octets, xco_octets, 9);
+            if (wrong & 1u << 0)
+                out_octets = event_octets = 8;
+            if (wrong & 1u << 1)
+                fields.heading = octets[5] = 0x13;
+            if (wrong & 1u << 2)
+                fields.service = octets[0] = 3;
+            if (wrong & 1u << 3)
+                fields = with(fields, (enum field)field, 0xffffffff);
+            for (lowest = 1; (wrong >> (lowest - 1) & 1) == 0; lowest++)
+                ;
+            WRITE(fields, lowest, NULL);
+            if (lowest != 4)
+                READ(octets, lowest, fields);
+        }
+}
+
 int main(void)
 {
     static void (*const parts[])(void) = {
         version,       fresh_tables,   fresh_refusals, first_use,     first_use_by_helpers,
         into_service,  one_life,       messages,       timer_orders,  haste,
         broken_lengths, broken_frames, broken_fields,  broken_records, states,
-        crossings,     several_wrong
+        crossings,     several_wrong,  changeovers,    changeover_bits, changeover_widths,
+        changeover_lengths, changeover_headings_and_services, every_changeover_octet,
+        changeover_several_wrong
     };
     size_t i;
 

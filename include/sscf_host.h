@@ -154,11 +154,11 @@ static inline const uint8_t *sscf_next_signal(const uint8_t *out, struct sscf_an
 /*
  * NAMES
  *
- * Each code as Q.2140 has it, and refusals in a few words; "?" if there is no such code. Status
- * codes and a REPORT's values are the abbreviations of Table 6, so that its {LR,OOS,-} can be
- * printed as it stands there: 0 in a REPORT is "-". The trace's scripts, host/names and host/ladder
- * of the sources, print the shorter names of sscf.h's constants instead: what is START_PROVING
- * there is MAAL-PROVING-indication here.
+ * Each code as Q.2140 has it, a changeover's heading as Q.2210 has it, and refusals in a few words;
+ * "?" if there is no such code. Status codes and a REPORT's values are the abbreviations of Table 6,
+ * so that its {LR,OOS,-} can be printed as it stands there: 0 in a REPORT is "-". The trace's
+ * scripts, host/names and host/ladder of the sources, print the shorter names of sscf.h's constants
+ * instead: what is START_PROVING there is MAAL-PROVING-indication here.
  */
 
 static inline const char *sscf_state_name(uint32_t state)
@@ -321,6 +321,29 @@ static inline const char *sscf_refusal_name(uint32_t refusal)
     case SSCF_REFUSED_TIMER: return "timer not running";
     case SSCF_REFUSED_STATE: return "illegal in this state";
     case SSCF_REFUSED_OUTPUT: return "output too short";
+    default: return "?";
+    }
+}
+
+/* Of changeover messages, whose two calls have refusals of their own. */
+
+static inline const char *sscf_changeover_heading_name(uint32_t heading)
+{
+    switch (heading) {
+    case SSCF_CHANGEOVER_XCO: return "XCO";
+    case SSCF_CHANGEOVER_XCA: return "XCA";
+    default: return "?";
+    }
+}
+
+static inline const char *sscf_changeover_refusal_name(uint32_t refusal)
+{
+    switch (refusal) {
+    case SSCF_ACCEPTED: return "accepted";
+    case SSCF_CHANGEOVER_REFUSED_LENGTH: return "bad length";
+    case SSCF_CHANGEOVER_REFUSED_HEADING: return "bad heading";
+    case SSCF_CHANGEOVER_REFUSED_SERVICE: return "bad service indicator";
+    case SSCF_CHANGEOVER_REFUSED_FIELD: return "field too wide";
     default: return "?";
     }
 }
