@@ -14,7 +14,7 @@
 
 PREFIX = /usr/local
 LIBDIR = $(PREFIX)/lib
-ARCHIVE = target/staticlib/libsscf.a
+ARCHIVE = target/libsscf.a
 
 all: look example
 
@@ -24,10 +24,10 @@ help:
 setup:
 	.ci/setup
 
-# Proves every crate, writes each library to target/rlib/ and the one for C to target/staticlib/.
+# Proves every crate, writes each library to target/rlib/ and the one for C to target/libsscf.a.
 library: setup
 	rt check
-	rt staticlib sscf
+	host/archive
 
 look: library
 	examples/wrong-row
