@@ -2,7 +2,7 @@
 ##                   library: a host to copy, and the test of conformance
 ## make library      set-up, proof and library alone
 ## make test         the gate: ends with 'N passed, 0 failed'
-## make bench        what a step costs against a second machine, in instructions and, on x86-64, in time
+## make bench        what a call costs against a second machine, in instructions and, on x86-64, in time
 ## make install      the library for C, its headers and a pkg-config file, below PREFIX (/usr/local), the archive into LIBDIR (PREFIX/lib); proves first,
 ##                   for some minutes, where the archive is older than a crate;
 ##                   DESTDIR goes before both, for packages
@@ -14,7 +14,7 @@
 
 PREFIX = /usr/local
 LIBDIR = $(PREFIX)/lib
-ARCHIVE = target/staticlib/libsscf.a
+ARCHIVE = target/libsscf.a
 
 all: look example
 
@@ -24,10 +24,10 @@ help:
 setup:
 	.ci/setup
 
-# Proves every crate, writes each library to target/rlib/ and the one for C to target/staticlib/.
+# Proves every crate, writes each library to target/rlib/ and the one for C to target/libsscf.a.
 library: setup
 	rt check
-	rt staticlib sscf
+	host/archive
 
 look: library
 	examples/wrong-row

@@ -1,6 +1,6 @@
 /*
- * What a step costs. Three machines make the same calls, an empty one, this library and the second
- * machine; a row of the table is one case over and over, or several kinds of them mixed. The script
+ * What a call costs. Three machines make the same calls, an empty one, this library and the second
+ * machine; a row of the table is one case over and over, or several kinds of step mixed. The script
  * host/bench makes the table, of what this program says when it is told to
  *
  *     check   see that both machines answer every call as they should, and name the rows
@@ -22,10 +22,15 @@ void bench_mark(void);
 struct sscf_answer empty_step(uint8_t *table, size_t table_octets,
                               const uint8_t *event, size_t event_octets,
                               uint8_t *out, size_t out_octets);
+uint32_t empty_write(uint8_t *out, size_t out_octets, struct sscf_changeover message);
+struct sscf_changeover_answer empty_read(const uint8_t *octets, size_t count);
+
+/* What is called: sscf_step, sscf_changeover_write or sscf_changeover_read. */
+enum { STEP, WRITE, READ, CALLS };
 
 /*
- * The cases: a link, an event for it, and the answer that shows that it is the case meant. A case
- * is a row alone, or one of the kinds that are mixed, or both.
+ * The cases of a step: a link, an event for it, and the answer that shows that it is the case
+ * meant. A case is a row alone, or one of the kinds that are mixed, or both.
  */
 
 enum { ALONE = 1, MIXED = 2, BOTH = ALONE | MIXED };
@@ -75,31 +80,76 @@ static const struct bench_case cases[] = {
 enum { CASES = sizeof cases / sizeof *cases };
 
 /*
- * The rows: each case that is one alone, and behind them all that are mixed. These are counted and
- * timed over the whole of their order. Of equal calls fewer are enough, and the shorter a stretch
- * the likelier that a busy machine leaves it in peace.
+ * The cases of the changeover calls, each a row: a message and nine octets. Writing is handed the
+ * one and reading the other; what is left is the answer, all 0 where it is refused.
+ */
+
+struct changeover_case {
+    const char *title;
+    unsigned call; /* WRITE or READ */
+    struct sscf_changeover message;
+    uint8_t octets[SSCF_CHANGEOVER_OCTETS];
+    uint32_t refusal;
+};
+
+enum { NO_HEADING = 0x11 }; /* one that is neither SSCF_CHANGEOVER_XCO nor SSCF_CHANGEOVER_XCA */
+
+static const struct changeover_case changeovers[] = {
+    {"changeover order written", WRITE,
+     {8, 0, 4660, 13602, 5, SSCF_CHANGEOVER_XCO, 0x030201},
+     {0x80, 0x34, 0x92, 0x48, 0x5d, SSCF_CHANGEOVER_XCO, 0x01, 0x02, 0x03}, SSCF_ACCEPTED},
+    {"an order with a number of 25 bits, refused by 4", WRITE,
+     {8, 0, 4660, 13602, 5, SSCF_CHANGEOVER_XCO, 0x1030201},
+     {0}, SSCF_CHANGEOVER_REFUSED_FIELD},
+    {"changeover order read", READ,
+     {8, 0, 4660, 13602, 5, SSCF_CHANGEOVER_XCO, 0x030201},
+     {0x80, 0x34, 0x92, 0x48, 0x5d, SSCF_CHANGEOVER_XCO, 0x01, 0x02, 0x03}, SSCF_ACCEPTED},
+    {"nine octets with another heading, refused by 2", READ,
+     {0},
+     {0x80, 0x34, 0x92, 0x48, 0x5d, NO_HEADING, 0x01, 0x02, 0x03}, SSCF_CHANGEOVER_REFUSED_HEADING},
+};
+
+enum { CHANGEOVERS = sizeof changeovers / sizeof *changeovers };
+
+/*
+ * The rows: each case of a step that is one alone, behind them all that are mixed, and then the
+ * changeover calls. The mixed kinds are counted and timed over the whole of their order. Of equal
+ * calls fewer are enough, and the shorter a stretch the likelier that a busy machine leaves it in
+ * peace.
  */
 
 enum { ORDER = 8192 }; /* see below; a multiple of the links of each table */
+enum { COUNTED = 100, TIMED = 2048 };
 enum { EMPTY, OURS, SECOND, MACHINES };
 
+static const unsigned tables[] = {1, SSCF_LINKS_MAX}; /* their links */
+enum { TABLES = sizeof tables / sizeof *tables };
+
 struct row {
-    const struct bench_case *kinds[CASES];
-    unsigned many;           /* kinds */
-    unsigned counted, timed; /* calls in a stretch */
-    double least[MACHINES];  /* nanoseconds of a call */
+    unsigned call;
+    const struct bench_case *kinds[CASES];    /* of a step */
+    const struct changeover_case *changeover; /* of another call */
+    unsigned many;                            /* kinds */
+    unsigned tables;                          /* that it is counted on, the last ones */
+    unsigned counted, timed;                  /* calls in a stretch */
+    double least[MACHINES];                   /* nanoseconds of a call */
 };
 
-static struct row rows[CASES + 1];
+static struct row rows[CASES + 1 + CHANGEOVERS];
 static size_t rows_made;
 
+/*
+ * The mixed kinds, which are many calls for a slow counter, are counted on the large table only. A
+ * changeover call has none.
+ */
 static void make_rows(void)
 {
-    struct row mixed = {{0}, 0, ORDER, ORDER, {0}};
+    struct row mixed = {.call = STEP, .tables = 1, .counted = ORDER, .timed = ORDER};
     size_t i;
 
     for (i = 0; i < CASES; i++) {
-        struct row alone = {{&cases[i]}, 1, 100, 2048, {0}};
+        struct row alone = {.call = STEP, .kinds = {&cases[i]}, .many = 1,
+                            .tables = TABLES, .counted = COUNTED, .timed = TIMED};
 
         if (cases[i].rows & ALONE)
             rows[rows_made++] = alone;
@@ -107,10 +157,16 @@ static void make_rows(void)
             mixed.kinds[mixed.many++] = &cases[i];
     }
     rows[rows_made++] = mixed;
+    for (i = 0; i < CHANGEOVERS; i++) {
+        struct row alone = {.call = changeovers[i].call, .changeover = &changeovers[i], .many = 1,
+                            .tables = 1, .counted = COUNTED, .timed = TIMED};
+
+        rows[rows_made++] = alone;
+    }
 }
 
 /*
- * The calls of a row: its kinds in an order drawn at random, always the same one, which begins anew
+ * The steps of a row: its kinds in an order drawn at random, always the same one, which begins anew
  * at its end, and the links of the table in turn. Each call finds its link's record put back. The
  * order is long because a processor learns a short one by heart: in one of 1,024 the mixed kinds
  * took the second machine a fourth less time than in this one, in longer ones a hundredth more.
@@ -165,7 +221,7 @@ static void draw(unsigned many)
     }
 }
 
-static void set_up(const struct row *row, unsigned links)
+static void set_up_steps(const struct row *row, unsigned links)
 {
     size_t i;
 
@@ -179,7 +235,7 @@ static void set_up(const struct row *row, unsigned links)
     draw(row->many);
 }
 
-/* Makes the link of a call and its event what they are to be, and answers the kind. */
+/* Makes the link of a step and its event what they are to be, and answers the kind. */
 static inline const struct kind *ready(unsigned call)
 {
     struct kind *kind = &kinds[order[call % ORDER]];
@@ -190,8 +246,8 @@ static inline const struct kind *ready(unsigned call)
     return kind;
 }
 
-/* Whether both machines do what a call is meant for, and the same in every octet. */
-static int agreed(const struct row *row, unsigned call)
+/* Whether both machines do what a step is meant for, and the same in every octet. */
+static int step_agreed(const struct row *row, unsigned call)
 {
     static uint8_t our_out[sizeof out], our_record[SSCF_LINK_OCTETS];
     const struct bench_case *due = row->kinds[order[call % ORDER]];
@@ -216,43 +272,135 @@ static int agreed(const struct row *row, unsigned call)
            memcmp(record, our_record, sizeof our_record) == 0;
 }
 
+/* The changeover calls of a row, all of one case. */
+
+static const struct changeover_case *changeover;
+
+/* A message, to make one of the other machine's type. */
+#define FIELDS(m)                                                                              \
+    {(m).sub_service, (m).service, (m).dpc, (m).opc, (m).slc, (m).heading, (m).number}
+
+static int write_agreed(void)
+{
+    struct second_changeover message = FIELDS(changeover->message);
+    uint8_t ours[sizeof changeover->octets] = {0}, second[sizeof changeover->octets] = {0};
+
+    return sscf_changeover_write(ours, sizeof ours, changeover->message) == changeover->refusal &&
+           second_changeover_write(second, sizeof second, message) == changeover->refusal &&
+           memcmp(ours, changeover->octets, sizeof ours) == 0 &&
+           memcmp(second, changeover->octets, sizeof second) == 0;
+}
+
+static int is_answer(uint32_t refusal, struct sscf_changeover message)
+{
+    const struct sscf_changeover *due = &changeover->message;
+
+    return refusal == changeover->refusal && message.sub_service == due->sub_service &&
+           message.service == due->service && message.dpc == due->dpc && message.opc == due->opc &&
+           message.slc == due->slc && message.heading == due->heading &&
+           message.number == due->number;
+}
+
+static int read_agreed(void)
+{
+    struct sscf_changeover_answer ours;
+    struct second_changeover_answer second;
+
+    ours = sscf_changeover_read(changeover->octets, sizeof changeover->octets);
+    second = second_changeover_read(changeover->octets, sizeof changeover->octets);
+    return is_answer(ours.refusal, ours.message) &&
+           is_answer(second.refusal, (struct sscf_changeover)FIELDS(second.message));
+}
+
 /*
- * The loop of the calls, one and the same for each machine, written three times since they answer
- * by different types. It stands between two marks, and the pointers to it are volatile, so that the
- * compiler cannot make one loop for few calls and another for many: what the two stretches have in
- * common falls out of their difference.
+ * The loop of the calls, one and the same for each machine, written three times for each call since
+ * the machines answer by different types. It stands between two marks, and the pointers to it are
+ * volatile, so that the compiler cannot make one loop for few calls and another for many: what the
+ * two stretches have in common falls out of their difference.
  */
-#define TURNS(name, type, step)                                                                \
+#define TURNS(name, turn)                                                                      \
     static uint32_t name(unsigned calls)                                                       \
     {                                                                                          \
         uint32_t sum = 0;                                                                      \
         unsigned call;                                                                         \
                                                                                                \
         bench_mark();                                                                          \
-        for (call = 0; call < calls; call++) {                                                 \
-            const struct kind *kind = ready(call);                                             \
-            type answer;                                                                       \
-                                                                                               \
-            answer = step(table, table_octets, kind->event, kind->event_octets, out,           \
-                          sizeof out);                                                         \
-            sum += answer.refusal + answer.octets + answer.signals;                            \
-        }                                                                                      \
+        for (call = 0; call < calls; call++)                                                   \
+            sum += turn(call);                                                                 \
         bench_mark();                                                                          \
         return sum;                                                                            \
     }
 
-TURNS(turns_empty, struct sscf_answer, empty_step)
-TURNS(turns_ours, struct sscf_answer, sscf_step)
-TURNS(turns_second, struct second_answer, second_step)
+#define STEPS(name, type, step)                                                                \
+    static inline uint32_t name##_turn(unsigned call)                                          \
+    {                                                                                          \
+        const struct kind *kind = ready(call);                                                 \
+        type answer;                                                                           \
+                                                                                               \
+        answer = step(table, table_octets, kind->event, kind->event_octets, out, sizeof out);  \
+        return answer.refusal + answer.octets + answer.signals;                                \
+    }                                                                                          \
+    TURNS(name, name##_turn)
 
-static uint32_t (*volatile machines[MACHINES])(unsigned) = {turns_empty, turns_ours, turns_second};
+#define WRITES(name, type, write)                                                              \
+    static inline uint32_t name##_turn(unsigned call)                                          \
+    {                                                                                          \
+        type message = FIELDS(changeover->message);                                            \
+                                                                                               \
+        (void)call;                                                                            \
+        return write(out, SSCF_CHANGEOVER_OCTETS, message);                                    \
+    }                                                                                          \
+    TURNS(name, name##_turn)
+
+#define READS(name, type, read)                                                                \
+    static inline uint32_t name##_turn(unsigned call)                                          \
+    {                                                                                          \
+        type answer = read(changeover->octets, SSCF_CHANGEOVER_OCTETS);                        \
+                                                                                               \
+        (void)call;                                                                            \
+        return answer.refusal + answer.message.number;                                         \
+    }                                                                                          \
+    TURNS(name, name##_turn)
+
+STEPS(empty_steps, struct sscf_answer, empty_step)
+STEPS(our_steps, struct sscf_answer, sscf_step)
+STEPS(second_steps, struct second_answer, second_step)
+WRITES(empty_writes, struct sscf_changeover, empty_write)
+WRITES(our_writes, struct sscf_changeover, sscf_changeover_write)
+WRITES(second_writes, struct second_changeover, second_changeover_write)
+READS(empty_reads, struct sscf_changeover_answer, empty_read)
+READS(our_reads, struct sscf_changeover_answer, sscf_changeover_read)
+READS(second_reads, struct second_changeover_answer, second_changeover_read)
+
+static uint32_t (*volatile machines[CALLS][MACHINES])(unsigned) = {
+    {empty_steps, our_steps, second_steps},
+    {empty_writes, our_writes, second_writes},
+    {empty_reads, our_reads, second_reads},
+};
 
 /* Check, count, time. */
 
-static const unsigned tables[] = {1, SSCF_LINKS_MAX};
-enum { TABLES = sizeof tables / sizeof *tables };
+static void set_up(const struct row *row, unsigned links)
+{
+    if (row->call == STEP)
+        set_up_steps(row, links);
+    else
+        changeover = row->changeover;
+}
 
-/* A line for each row: the kinds in it, the calls that are counted, the title. */
+static int agreed(const struct row *row, unsigned call)
+{
+    if (row->call == STEP)
+        return step_agreed(row, call);
+    return row->call == WRITE ? write_agreed() : read_agreed();
+}
+
+static const char *title(const struct row *row, unsigned call)
+{
+    return row->call == STEP ? row->kinds[order[call]]->title : row->changeover->title;
+}
+
+/* A line for each row: the tables it is counted on, its kinds, the calls counted, the title. */
 static int check(void)
 {
     size_t i, j;
@@ -265,14 +413,14 @@ static int check(void)
             set_up(row, tables[j]);
             for (call = 0; call < ORDER; call++) {
                 if (!agreed(row, call)) {
-                    printf("%s: not answered as it should be\n", row->kinds[order[call]]->title);
+                    printf("%s: not answered as it should be\n", title(row, call));
                     return 1;
                 }
             }
         }
-        printf("%u %u ", row->many, row->counted);
+        printf("%u %u %u ", row->tables, row->many, row->counted);
         if (row->many == 1)
-            printf("%s\n", row->kinds[0]->title);
+            printf("%s\n", title(row, 0));
         else
             printf("%u kinds in a fixed random order, %u links in turn (average)\n", row->many,
                    SSCF_LINKS_MAX);
@@ -280,18 +428,17 @@ static int check(void)
     return 0;
 }
 
-/* The mixed kinds, which are many calls for a slow counter, on the large table only. */
 static int count(void)
 {
     enum { FEW = 10 };
     size_t i, j, k;
 
     for (i = 0; i < rows_made; i++) {
-        for (j = rows[i].many == 1 ? 0 : TABLES - 1; j < TABLES; j++) {
+        for (j = TABLES - rows[i].tables; j < TABLES; j++) {
             set_up(&rows[i], tables[j]);
             for (k = 0; k < MACHINES; k++) {
-                machines[k](FEW);
-                machines[k](FEW + rows[i].counted);
+                machines[rows[i].call][k](FEW);
+                machines[rows[i].call][k](FEW + rows[i].counted);
             }
         }
     }
@@ -310,15 +457,15 @@ static double now(void)
  * Nanoseconds of a call, with the stack moved. Where it lies is chance in each run, and at some
  * places, alike for every 4,096 octets, a call that copies a message takes a third longer.
  */
-static double timed(size_t machine, unsigned calls, unsigned moved)
+static double timed(const struct row *row, size_t machine, unsigned moved)
 {
     volatile uint8_t room[1 + moved];
     double since;
 
     (void)(room[0] = 0); /* or there would be none */
     since = now();
-    machines[machine](calls);
-    return (now() - since) / calls;
+    machines[row->call][machine](row->timed);
+    return (now() - since) / row->timed;
 }
 
 /* One machine behind the other, in turn forwards and backwards, and both at every place. */
@@ -330,7 +477,7 @@ static void time_round(struct row *row, unsigned round)
     set_up(row, SSCF_LINKS_MAX);
     for (i = 0; i < MACHINES; i++) {
         size_t k = round % 2 == 0 ? i : MACHINES - 1 - i;
-        double call = timed(k, row->timed, round / 2 % PLACES * (4096 / PLACES));
+        double call = timed(row, k, round / 2 % PLACES * (4096 / PLACES));
 
         if (round == 0 || call < row->least[k])
             row->least[k] = call;

@@ -9,6 +9,8 @@ void bench_mark(void);
 struct sscf_answer empty_step(uint8_t *table, size_t table_octets,
                               const uint8_t *event, size_t event_octets,
                               uint8_t *out, size_t out_octets);
+uint32_t empty_write(uint8_t *out, size_t out_octets, struct sscf_changeover message);
+struct sscf_changeover_answer empty_read(const uint8_t *octets, size_t count);
 
 void bench_mark(void)
 {
@@ -21,5 +23,19 @@ struct sscf_answer empty_step(uint8_t *table, size_t table_octets,
     struct sscf_answer nothing = {SSCF_ACCEPTED, 0, 0};
 
     (void)table, (void)table_octets, (void)event, (void)event_octets, (void)out, (void)out_octets;
+    return nothing;
+}
+
+uint32_t empty_write(uint8_t *out, size_t out_octets, struct sscf_changeover message)
+{
+    (void)out, (void)out_octets, (void)message;
+    return SSCF_ACCEPTED;
+}
+
+struct sscf_changeover_answer empty_read(const uint8_t *octets, size_t count)
+{
+    struct sscf_changeover_answer nothing = {SSCF_ACCEPTED, {0, 0, 0, 0, 0, 0, 0}};
+
+    (void)octets, (void)count;
     return nothing;
 }
