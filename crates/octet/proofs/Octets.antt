@@ -1,9 +1,10 @@
--- How large a bit and an octet are, and the two octets of a number. Assumes nothing.
+-- How large a bit and an octet are, the two octets of a number, and a list as its octets. Assumes nothing.
 use Prim.Native.Nat.{ℕ, zero, suc, _+_, _*_, _/_, _%_, _<_, _≤_}
-use mathlib.Core.Path.{_≡_}
+use mathlib.Core.Path.{_≡_, refl, sym, ap, _∙_}
 use mathlib.Core.Bool.{Bool, true, false}
 use mathlib.Core.List.{List, [], _∷_}
 use native.Mathlib.Omega.{arith}
+use lib.ListN.{length}
 use Rattle.octet.specs.Octets.{Octets, at, bit}
 
 pub bit-le : (b : Bool) → bit b ≤ 1
@@ -20,3 +21,16 @@ high-same a b h = omega arith
 
 pub low-same : (a b : ℕ) → b < 256 → (a * 256 + b) % 256 ≡ b
 low-same a b h = omega arith
+
+-- n octets of a list, from octet i on
+abbrev pub listing : List ℕ → ℕ → ℕ → List ℕ
+listing r i zero = []
+listing r i (suc n) = at r i ∷ listing r (suc i) n
+
+shifted : (x : ℕ) (r : List ℕ) (i n : ℕ) → listing (x ∷ r) (suc i) n ≡ listing r i n
+shifted x r i zero = refl
+shifted x r i (suc n) = ap (λ (s : List ℕ). at r i ∷ s) (shifted x r (suc i) n)
+
+pub listed : (r : List ℕ) → r ≡ listing r 0 (length r)
+listed [] = refl
+listed (x ∷ r) = ap (λ (s : List ℕ). x ∷ s) (listed r ∙ sym (shifted x r 0 (length r)))

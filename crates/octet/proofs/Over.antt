@@ -80,6 +80,11 @@ pub over-front : (s d : List ℕ) → take (length s) (over s d) ≡ s
 unfolding over
 over-front s d = take-append-seam s (drop (length s) d)
 
+-- nothing is left of what is no longer
+pub over-whole : (s d : List ℕ) → length d ≤ length s → over s d ≡ s
+unfolding over
+over-whole s d h = ap (λ (r : List ℕ). s ++ r) (drop-of-length-le d h) ∙ append-nil s
+
 pub over-rest : (s d : List ℕ) → drop (length s) (over s d) ≡ drop (length s) d
 unfolding over
 over-rest s d = drop-append-seam s (drop (length s) d)

@@ -15,7 +15,6 @@ use Rattle.unit.specs.Proving.{mpsCode, upsCode}
 use Rattle.unit.specs.Answered.{Answered, refused, accepted}
 use Rattle.table6.specs.declared.State.{State}
 use Rattle.unit.proofs.Proving.{mps-below, ups-below}
-use Rattle.table6.specs.Stored.{from}
 use Rattle.table6.proofs.Lists.{alike}
 use Rattle.table6.proofs.Every.{left, right}
 use Rattle.link.specs.declared.Link.{Link}
@@ -24,7 +23,7 @@ use Rattle.record.specs.declared.Slot.{Slot}
 use Rattle.record.specs.declared.SomeState.{SomeState}
 use Rattle.record.specs.declared.SomeMps.{SomeMps}
 use Rattle.octet.specs.Octets.{at, two, bit}
-use Rattle.octet.proofs.Octets.{bit-le, octet-at, high-same, low-same}
+use Rattle.octet.proofs.Octets.{bit-le, octet-at, high-same, low-same, listing, listed}
 use Rattle.record.specs.LinkRecord.{stateCode, stateAt, mpsAt, upsAt, octetsOf, linkOf, wellFormed, slotOf, found, Unpacked, PackedWell, UnpackedGood, Repacked}
 use Rattle.record.specs.Decoded.{someState, someMps, restFormed}
 
@@ -159,15 +158,6 @@ packed-well l g =
 
 -- AND BACK
 
--- a list is its octets
-shifted : (f : ℕ → ℕ) (i n : ℕ) → from f (suc i) n ≡ from (λ k. f (suc k)) i n
-shifted f i zero = refl
-shifted f i (suc n) = ap (λ (r : List ℕ). f (suc i) ∷ r) (shifted f (suc i) n)
-
-listed : (r : List ℕ) → r ≡ from (at r) 0 (length r)
-listed [] = refl
-listed (x ∷ r) = ap (λ (s : List ℕ). x ∷ s) (listed r ∙ sym (shifted (at (x ∷ r)) 0 (length r)))
-
 state-same : (c : ℕ) → 1 ≤ c → c ≤ 8 → stateCode (stateAt c) ≡ c
 state-same zero p q = absurd (omega arith)
 state-same (suc c) p q = alike (λ k. stateCode (stateAt (suc k))) suc 8 0 refl c (omega arith)
@@ -269,7 +259,7 @@ repacked r o n w =
     let e14 = high-same (at r 14) (at r 15) (octet-at r o 15) in
     let e15 = low-same (at r 14) (at r 15) (octet-at r o 15) in
     (λ x. e0 x ∷ e1 x ∷ e2 x ∷ e3 x ∷ e4 x ∷ e5 x ∷ e6 x ∷ e7 x ∷ at r 8 ∷ at r 9 ∷ at r 10 ∷ e11 x ∷ e12 x ∷ e13 x ∷ e14 x ∷ e15 x ∷ [])
-    ∙ ap (from (at r) 0) (sym n)
+    ∙ ap (listing r 0) (sym n)
     ∙ sym (listed r)
 
 pub octets-length : (l : Link) → length (octetsOf l) ≡ 16

@@ -1,0 +1,121 @@
+-- What the calls come to, by the checks: refused by one, or past all of them. Assumes nothing.
+use Prim.Native.Nat.{ℕ, _≤_}
+use native.Mathlib.Omega.{arith}
+use mathlib.Core.Path.{_≡_, refl, sym, ap, _∙_}
+use mathlib.Core.Bool.{Bool, true, false, cond, not, _&&_, _||_, true≢false}
+use mathlib.Core.Logic.{_⊎_, inl, inr}
+use mathlib.Core.List.{List}
+use lib.Dec.{eqb, ltb}
+use lib.ListN.{length, drop}
+use borrow.Author.Tests.{eq-eqb, ne-eqb, eqb-true, ltb-false, not-false}
+use Rattle.unit.specs.Checks.{Verdict, passed, refused, first}
+use Rattle.changeover.specs.declared.Changeover.{Changeover}
+use Rattle.changeover.specs.Figure3.{octetsOf, messageOf}
+use Rattle.changeover.specs.Calls.{XCO, XCA, messageOctets, tooWide, checks, writing, written, writeCall, answered, nothing, read, readCall}
+use Rattle.changeover.specs.Checked.{numberOf}
+use Rattle.changeover.proofs.Figure3.{Fits}
+
+-- the verdict on a message for nine octets
+abbrev pub onMessage : Changeover → Verdict ℕ
+onMessage m = first (drop 1 (checks messageOctets m))
+
+-- its three tests: heading, service indicator, widths
+abbrev three : Bool → Bool → Bool → ℕ
+three a b c = numberOf (cond a (refused 2) (cond b (refused 3) (cond c (refused 4) passed)))
+
+-- asked in another order
+pub by-service : (a c : Bool) {b : Bool} → b ≡ true → false ≡ eqb (three a b c) 0
+by-service true c e = refl
+by-service false c e = rw e
+
+pub by-others : (a c : Bool) {b : Bool} → b ≡ false → not c && a ≡ eqb (three (not a) b c) 0
+by-others true true e = rw e
+by-others true false e = rw e
+by-others false true e = refl
+by-others false false e = refl
+
+-- where none refuses, none of the three holds
+none-holds : (a b c : Bool) → three a b c ≡ 0 → (a ≡ false) × (b ≡ false) × (c ≡ false)
+none-holds true b c h = absurd (omega arith)
+none-holds false true c h = absurd (omega arith)
+none-holds false false true h = absurd (omega arith)
+none-holds false false false h = (refl, refl, refl)
+
+pub passes : (m : Changeover) → numberOf (onMessage m) ≡ 0 → onMessage m ≡ passed
+passes m h =
+    let t = none-holds (not (eqb (m .heading) XCO || eqb (m .heading) XCA)) (not (eqb (m .si) 0)) (tooWide m) h in
+    rw (t .0, t .1, t .2)
+
+-- and all fields fit
+neither : (a b : Bool) → a || b ≡ false → (a ≡ false) × (b ≡ false)
+neither true b h = absurd (true≢false h)
+neither false b h = (refl, h)
+
+either : (a b : Bool) → a || b ≡ true → (a ≡ true) ⊎ (b ≡ true)
+either true b h = inl refl
+either false b h = inr h
+
+headed-small : (h : ℕ) → (eqb h XCO ≡ true) ⊎ (eqb h XCA ≡ true) → h ≤ 255
+headed-small h (inl e) = omega (arith, eqb-true h XCO e)
+headed-small h (inr e) = omega (arith, eqb-true h XCA e)
+
+pub fits : (m : Changeover) → numberOf (onMessage m) ≡ 0 → Fits m
+fits m h =
+    let o = eqb (m .heading) XCO in
+    let a = eqb (m .heading) XCA in
+    let w1 = ltb 15 (m .ssf) in
+    let w2 = ltb 16383 (m .dpc) in
+    let w3 = ltb 16383 (m .opc) in
+    let w4 = ltb 15 (m .slc) in
+    let w5 = ltb 16777215 (m .number) in
+    let t = none-holds (not (o || a)) (not (eqb (m .si) 0)) (tooWide m) h in
+    let n4 = neither (w1 || w2 || w3 || w4) w5 (t .2) in
+    let n3 = neither (w1 || w2 || w3) w4 (n4 .0) in
+    let n2 = neither (w1 || w2) w3 (n3 .0) in
+    let n1 = neither w1 w2 (n2 .0) in
+    record {
+      ssf = ltb-false 15 (m .ssf) (n1 .0);
+      si = omega (arith, eqb-true (m .si) 0 (not-false (eqb (m .si) 0) (t .1)));
+      dpc = ltb-false 16383 (m .dpc) (n1 .1);
+      opc = ltb-false 16383 (m .opc) (n2 .1);
+      slc = ltb-false 15 (m .slc) (n3 .1);
+      heading = headed-small (m .heading) (either o a (not-false (o || a) (t .0)));
+      number = ltb-false 16777215 (m .number) (n4 .1);
+    }
+
+-- with nine octets, the verdict on the message decides
+nine : (n : ℕ) (m : Changeover) → n ≡ messageOctets → first (checks n m) ≡ onMessage m
+nine n m e = rw (eq-eqb n messageOctets e)
+
+other : (n : ℕ) (m : Changeover) → (n ≡ messageOctets → ⊥) → first (checks n m) ≡ refused 1
+other n m e = rw (ne-eqb n messageOctets e)
+
+refusing : (v : Verdict ℕ) (n : ℕ) → n ≡ numberOf v → (n ≡ 0 → ⊥) → v ≡ refused n
+refusing passed n e z = absurd (z e)
+refusing (refused k) n e z = ap refused (sym e)
+
+-- WRITING
+pub write-length : (o : List ℕ) (m : Changeover) → (length o ≡ messageOctets → ⊥) → writing 1 o ≡ writeCall o m
+unfolding writeCall
+write-length o m e = rw (other (length o) m e)
+
+pub write-refused : (o : List ℕ) (m : Changeover) (n : ℕ) → length o ≡ messageOctets → n ≡ numberOf (onMessage m) → (n ≡ 0 → ⊥) → writing n o ≡ writeCall o m
+unfolding writeCall
+write-refused o m n l e z = rw (nine (length o) m l, refusing (onMessage m) n e z)
+
+pub write-accepted : (o : List ℕ) (m : Changeover) → length o ≡ messageOctets → numberOf (onMessage m) ≡ 0 → writing 0 (octetsOf m) ≡ writeCall o m
+unfolding writeCall
+write-accepted o m l e = rw (nine (length o) m l, passes m e)
+
+-- READING
+pub read-length : (r : List ℕ) → (length r ≡ messageOctets → ⊥) → answered 1 nothing ≡ readCall r
+unfolding readCall
+read-length r e = rw (other (length r) (messageOf r) e)
+
+pub read-refused : (r : List ℕ) (n : ℕ) → length r ≡ messageOctets → n ≡ numberOf (onMessage (messageOf r)) → (n ≡ 0 → ⊥) → answered n nothing ≡ readCall r
+unfolding readCall
+read-refused r n l e z = rw (nine (length r) (messageOf r) l, refusing (onMessage (messageOf r)) n e z)
+
+pub read-accepted : (r : List ℕ) → length r ≡ messageOctets → numberOf (onMessage (messageOf r)) ≡ 0 → answered 0 (messageOf r) ≡ readCall r
+unfolding readCall
+read-accepted r l e = rw (nine (length r) (messageOf r) l, passes (messageOf r) e)

@@ -1,0 +1,12 @@
+-- What the code's own functions answer. Nothing here has to be believed: the promises of the two calls tie it to Calls.antt and Figure3.antt.
+use Prim.Native.Nat.{ℕ, _+_, _*_}
+use Rattle.unit.specs.Checks.{Verdict, passed, refused}
+
+-- The refusal, or 0.
+abbrev pub numberOf : Verdict ℕ → ℕ
+numberOf passed = 0
+numberOf (refused n) = n
+
+-- Four octets as a number, the low one first.
+abbrev pub lowFirst : ℕ → ℕ → ℕ → ℕ → ℕ
+lowFirst a b c d = a + b * 256 + c * 65536 + d * 16777216

@@ -1,0 +1,4 @@
+pub mod Figure3
+pub mod Calls
+pub mod Checked
+pub mod Laws
