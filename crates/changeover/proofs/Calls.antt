@@ -1,5 +1,5 @@
 -- What the calls come to, by the checks: refused by one, or past all of them. Assumes nothing.
-use Prim.Native.Nat.{ℕ, _≤_}
+use Prim.Native.Nat.{ℕ, zero, suc, _+_, _*_, _≤_, _<_}
 use native.Mathlib.Omega.{arith}
 use mathlib.Core.Path.{_≡_, refl, sym, ap, _∙_}
 use mathlib.Core.Bool.{Bool, true, false, cond, not, _&&_, _||_, true≢false}
@@ -7,12 +7,12 @@ use mathlib.Core.Logic.{_⊎_, inl, inr}
 use mathlib.Core.List.{List}
 use lib.Dec.{eqb, ltb}
 use lib.ListN.{length, drop}
-use borrow.Author.Tests.{eq-eqb, ne-eqb, eqb-true, ltb-false, not-false}
+use borrow.Author.Tests.{eq-eqb, ne-eqb, lt-ltb, le-ltb, eqb-true, ltb-false, not-false}
 use Rattle.unit.specs.Checks.{Verdict, passed, refused, first}
 use Rattle.changeover.specs.declared.Changeover.{Changeover}
 use Rattle.changeover.specs.Figure3.{octetsOf, messageOf}
 use Rattle.changeover.specs.Calls.{XCO, XCA, messageOctets, tooWide, checks, writing, written, writeCall, answered, nothing, read, readCall}
-use Rattle.changeover.specs.Checked.{numberOf}
+use Rattle.changeover.specs.Checked.{numberOf, tooWideBehind}
 use Rattle.changeover.proofs.Figure3.{Fits}
 
 -- the verdict on a message for nine octets
@@ -24,15 +24,33 @@ abbrev three : Bool → Bool → Bool → ℕ
 three a b c = numberOf (cond a (refused 2) (cond b (refused 3) (cond c (refused 4) passed)))
 
 -- asked in another order
-pub by-service : (a c : Bool) {b : Bool} → b ≡ true → false ≡ eqb (three a b c) 0
-by-service true c e = refl
-by-service false c e = rw e
+pub by-octet-1 : (a b c w : Bool) → b || w ≡ true → false ≡ eqb (three a b (w || c)) 0
+by-octet-1 true b c w h = refl
+by-octet-1 false true c w h = refl
+by-octet-1 false false c true h = refl
+by-octet-1 false false c false h = absurd (true≢false (sym h))
 
-pub by-others : (a c : Bool) {b : Bool} → b ≡ false → not c && a ≡ eqb (three (not a) b c) 0
-by-others true true e = rw e
-by-others true false e = rw e
-by-others false true e = refl
-by-others false false e = refl
+pub by-others : (a b c w : Bool) → b || w ≡ false → not c && a ≡ eqb (three (not a) b (w || c)) 0
+by-others a true c w h = absurd (true≢false h)
+by-others a false c true h = absurd (true≢false h)
+by-others true false true false h = refl
+by-others true false false false h = refl
+by-others false false true false h = refl
+by-others false false false false h = refl
+
+pub wide-parts : (m : Changeover) → tooWide m ≡ (ltb 15 (m .ssf) || tooWideBehind m)
+wide-parts m = by (ltb 15 (m .ssf)) (ltb 16383 (m .dpc)) (ltb 16383 (m .opc)) (ltb 15 (m .slc)) (ltb 16777215 (m .number)) where
+  by : (v w x y z : Bool) → v || w || x || y || z ≡ (v || (w || x || y || z))
+  by true w x y z = refl
+  by false w x y z = refl
+
+-- one test for SSF and SI
+pub both-fit : (ssf si : ℕ) → ssf + si * 256 ≤ 15 → not (eqb si 0) || ltb 15 ssf ≡ false
+both-fit ssf si h = rw (eq-eqb si 0 (omega arith), le-ltb 15 ssf (omega arith))
+
+pub one-not : (ssf si : ℕ) → 15 < ssf + si * 256 → not (eqb si 0) || ltb 15 ssf ≡ true
+one-not ssf zero h = lt-ltb 15 ssf (omega arith)
+one-not ssf (suc si) h = rw (ne-eqb (suc si) 0 (omega arith))
 
 -- where none refuses, none of the three holds
 none-holds : (a b c : Bool) → three a b c ≡ 0 → (a ≡ false) × (b ≡ false) × (c ≡ false)

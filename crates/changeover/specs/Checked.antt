@@ -1,11 +1,18 @@
 -- What the code's own functions answer. Nothing here has to be believed: the promises of the two calls tie it to Calls.antt and Figure3.antt.
 use Prim.Native.Nat.{ℕ, _+_, _*_}
+use mathlib.Core.Bool.{Bool, _||_}
+use lib.Dec.{ltb}
 use Rattle.unit.specs.Checks.{Verdict, passed, refused}
+use Rattle.changeover.specs.declared.Changeover.{Changeover}
 
 -- The refusal, or 0.
 abbrev pub numberOf : Verdict ℕ → ℕ
 numberOf passed = 0
 numberOf (refused n) = n
+
+-- Of the fields, those behind octet 1.
+abbrev pub tooWideBehind : Changeover → Bool
+tooWideBehind m = ltb 16383 (m .dpc) || ltb 16383 (m .opc) || ltb 15 (m .slc) || ltb 16777215 (m .number)
 
 -- Four octets as a number, the low one first.
 abbrev pub lowFirst : ℕ → ℕ → ℕ → ℕ → ℕ

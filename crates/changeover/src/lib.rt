@@ -8,7 +8,7 @@ ghost use lib.ListN.{length, drop};
 ghost use Rattle.unit.specs.Checks.{first};
 ghost use Rattle.changeover.specs.Figure3.{octetsOf, messageOf};
 ghost use Rattle.changeover.specs.Calls.{XCO, XCA, messageOctets, tooWide, checks, answered, nothing, writing, writeCall, readCall};
-ghost use Rattle.changeover.specs.Checked.{numberOf, lowFirst};
+ghost use Rattle.changeover.specs.Checked.{numberOf, tooWideBehind, lowFirst};
 
 // The octets of a message.
 const MESSAGE: usize = 9;
@@ -48,16 +48,25 @@ pub struct Answer {
     pub message: Changeover,
 }
 
+// Whether a heading is one of the two.
 fn headed(heading: u8) -> bool
     ensures { λ r. ⌜ r ≡ (eqb heading XCO || eqb heading XCA) ⌝ }
 {
     (heading == XCO) | (heading == XCA)
 }
 
+// Whether a field behind octet 1 has more bits than figure 3 has for it.
+fn too_wide_behind(m: Changeover) -> bool
+    ensures { λ r. ⌜ r ≡ tooWideBehind m ⌝ }
+{
+    (16383 < m.dpc) | (16383 < m.opc) | (15 < m.slc) | (16777215 < m.number)
+}
+
+// Whether any field has.
 fn too_wide(m: Changeover) -> bool
     ensures { λ r. ⌜ r ≡ tooWide m ⌝ }
 {
-    (15 < m.ssf) | (16383 < m.dpc) | (16383 < m.opc) | (15 < m.slc) | (16777215 < m.number)
+    (15 < m.ssf) | too_wide_behind(m)
 }
 
 // The checks behind that of the length.
@@ -76,17 +85,17 @@ fn checked(m: Changeover) -> u32
     ACCEPTED
 }
 
-// Whether none of them refuses, asked in the order that costs least.
+// Whether none of them refuses, asked in the order that costs least. SSF and SI stand side by side in memory, and one comparison does for both.
 fn sound(m: Changeover) -> bool
     ensures { λ r. ⌜ r ≡ eqb (numberOf (first (drop 1 (checks messageOctets m)))) 0 ⌝ }
 {
-    if m.si != 0 {
+    if 15 < m.ssf as u16 + m.si as u16 * 256 {
         return false;
     }
-    !too_wide(m) & headed(m.heading)
+    !too_wide_behind(m) & headed(m.heading)
 }
 
-// The nine octets of a message. From octet 3 on, what is left of DPC, OPC and SLC are one number, its low octet first.
+// The nine octets of a message. OPC goes on where DPC ends, in octet 3.
 fn pack(m: Changeover) -> [u8; 9]
     requires { ⌜ numberOf (first (drop 1 (checks messageOctets m))) ≡ 0 ⌝ }
     ensures { λ r. ⌜ r ≡ octetsOf m ⌝ }
@@ -112,7 +121,7 @@ fn low_first(a: u8, b: u8, c: u8, d: u8) -> u32
     a as u32 + b as u32 * 256 + c as u32 * 65536 + d as u32 * 16777216
 }
 
-// The message of nine octets. DPC, OPC and SLC are one number.
+// The message of nine octets.
 fn unpack(r: &[u8]) -> Changeover
     requires { ⌜ length (now r) ≡ messageOctets ⌝ }
     ensures { λ m. ⌜ m ≡ messageOf (now (r .entry)) ⌝ }
