@@ -11,7 +11,8 @@
  *     sscf_step     takes one event for one link, brings that link's record in the table up to
  *                   date, and writes the signals that follow from the event
  *
- * A third, sscf_version, tells the version.
+ * A third, sscf_version, tells the version. For the layer above there are two more, which know of
+ * no table: sscf_changeover_write and sscf_changeover_read, at the end of this header.
  *
  * The host hands in as an event whatever the link's user, SSCOP, layer management or a timer has
  * to say, and hands the signals on to those they are for. SSCOP itself, the clocks, the monitoring
@@ -20,8 +21,8 @@
  * The library is for x86-64 Linux. It allocates nothing, keeps nothing between calls and calls
  * nothing back; every call returns, whatever octets it is given. All it knows of the links stands
  * in the table, which is the host's: it may be copied, stored and carried to another process, where
- * one copy alone goes on, the latest, whole. What the calls promise, at the end of this header, is
- * proved of the code, for every table and every event.
+ * one copy alone goes on, the latest, whole. What the calls promise, beside each of them below, is
+ * proved of the code, for every table, every event and every message.
  *
  * Of the C library it needs memmove and nothing else; a later version may also need memcpy, memset,
  * memcmp or bcmp. A step takes at most 256 octets of stack, memmove's own not counted, the other
@@ -485,6 +486,73 @@ uint32_t sscf_version(void);
 
 /*
  * CHANGEOVER MESSAGES
+ *
+ * For the user of the links, MTP level 3 by ITU-T Q.2210 (07/96). When a link fails, its two ends
+ * tell each other over another link which of the other's messages they accepted last: by an order,
+ * XCO, and an acknowledgement, XCA. Each then sends again, over another link, what the other has
+ * not accepted. Links over SSCOP count messages with 24 bits, and so do these two, the extended
+ * ones of Q.2210, clause 9.8.1. They are nine octets:
+ *
+ *     bit  8   7   6   5   4   3   2   1
+ *        |  sub-service  |  service = 0  |  octet 1
+ *        |              DPC              |  octet 2
+ *        |  OPC  |          DPC          |  octet 3
+ *        |              OPC              |  octet 4
+ *        |      SLC      |      OPC      |  octet 5
+ *        |  H1 = 3 or 4  |    H0 = 1     |  octet 6
+ *        |            number             |  octet 7
+ *        |            number             |  octet 8
+ *        |            number             |  octet 9
+ *
+ * A field that goes over several octets begins with its lowest bits, in the first of them.
+ *
+ * When to send which:
+ *
+ * - A link has left service, by OUT_OF_SERVICE or by a STOP of the user's own, and its traffic is
+ *   to go another way. Hand in RETRIEVE_BSNT for it: out of service it is accepted. The number of
+ *   BSNT goes into an XCO, sent over another link, with the SLC of the link that failed and the
+ *   point codes of its far end (DPC) and of this one (OPC).
+ * - The XCA that comes back has the number of the last message that the far end accepted from here.
+ *   Hand it in as the FSNC of RETRIEVAL_REQUEST_AND_FSNC. What then comes as RETRIEVED_MESSAGES the
+ *   far end has not accepted: it is sent again, in its order, until RETRIEVAL_COMPLETE.
+ * - At an XCO from the far end the link has failed here too, also where it is still in service:
+ *   then STOP it. Answer by an XCA with the number of this end's own BSNT, and hand in the XCO's
+ *   number as FSNC, as above.
+ * - After BSNT_NOT_RETRIEVABLE there is no number, and neither of the two can be sent. Nor should
+ *   one be if the link came up anew and received nothing on that connection: BSNT is then still
+ *   that of the connection before (see the link record). Q.704's emergency changeover is for such
+ *   cases; it is not written here.
+ *
+ * Link 2 has left service, and an XCO is to be sent to 4660 from 13602, where the link has code 5:
+ *
+ *     uint8_t ask[SSCF_HEAD_OCTETS] = {'E', 'V', 0, 2, SSCF_EVENT_RETRIEVE_BSNT};
+ *     struct sscf_changeover order = {8, 0, 4660, 13602, 5, SSCF_CHANGEOVER_XCO, 0};
+ *     uint8_t xco[SSCF_CHANGEOVER_OCTETS];
+ *
+ *     answer = sscf_step(table, sizeof table, ask, sizeof ask, out, sizeof out);
+ *     if (answer.refusal == SSCF_ACCEPTED && out[4] == SSCF_SIGNAL_BSNT) {
+ *         order.number = (uint32_t)out[6] << 16 | (uint32_t)out[7] << 8 | out[8];
+ *         if (sscf_changeover_write(xco, sizeof xco, order) == SSCF_ACCEPTED)
+ *             send_over_another_link(xco, sizeof xco);
+ *     }
+ *
+ * With BSNT 197121 these are sent: 80 34 92 48 5d 31 01 02 03. And when a message comes:
+ *
+ *     struct sscf_changeover_answer came = sscf_changeover_read(message, length);
+ *
+ *     if (came.refusal == SSCF_ACCEPTED && came.message.heading == SSCF_CHANGEOVER_XCA) {
+ *         uint8_t fetch[SSCF_HEAD_OCTETS] = {'E', 'V', 0, 2};
+ *
+ *         fetch[4] = SSCF_EVENT_RETRIEVAL_REQUEST_AND_FSNC;
+ *         fetch[6] = (uint8_t)(came.message.number >> 16);
+ *         fetch[7] = (uint8_t)(came.message.number >> 8);
+ *         fetch[8] = (uint8_t)came.message.number;
+ *         answer = sscf_step(table, sizeof table, fetch, sizeof fetch, out, sizeof out);
+ *         hand_on_signals(out, answer);
+ *     }
+ *
+ * The calls keep nothing. Proved of both, for every message and all octets: what was written is
+ * read as the same fields, and what was read is written as the same nine octets.
  */
 
 #define SSCF_CHANGEOVER_OCTETS 9
@@ -495,12 +563,16 @@ enum sscf_changeover_heading {
     SSCF_CHANGEOVER_XCA = 0x41  /* extended changeover acknowledgement */
 };
 
-/* In place of SSCF_REFUSED_..., for the two calls here; in this order, as above. */
+/*
+ * The refusals of these two calls, which are not those of a step: each is given exactly where it is
+ * listed, and where several things are wrong the lowest number is answered. A refusal changes
+ * nothing.
+ */
 enum sscf_changeover_refusal {
-    SSCF_CHANGEOVER_REFUSED_LENGTH = 1,  /* not nine octets: of the output, of the input */
-    SSCF_CHANGEOVER_REFUSED_HEADING = 2, /* neither XCO nor XCA */
-    SSCF_CHANGEOVER_REFUSED_SERVICE = 3, /* a service indicator other than 0 */
-    SSCF_CHANGEOVER_REFUSED_FIELD = 4    /* writing alone: a field too wide */
+    SSCF_CHANGEOVER_REFUSED_LENGTH = 1,  /* the output, or the input, is not nine octets long */
+    SSCF_CHANGEOVER_REFUSED_HEADING = 2, /* the heading is neither XCO nor XCA */
+    SSCF_CHANGEOVER_REFUSED_SERVICE = 3, /* the service indicator is not 0 */
+    SSCF_CHANGEOVER_REFUSED_FIELD = 4    /* writing only: another field is too wide */
 };
 
 /* A changeover message, its fields in the order of their first bits. */
@@ -520,12 +592,17 @@ struct sscf_changeover_answer {
 };
 
 /*
- * Writes a message into an output of exactly nine octets. Answers SSCF_ACCEPTED or
- * SSCF_CHANGEOVER_REFUSED_...; refused, it leaves the output as it was.
+ * Writes a message into an output of exactly nine octets, all of which it writes, and answers
+ * SSCF_ACCEPTED; or answers SSCF_CHANGEOVER_REFUSED_... and leaves the output as it was.
  */
 uint32_t sscf_changeover_write(uint8_t *out, size_t out_octets, struct sscf_changeover message);
 
-/* Reads nine octets. */
+/*
+ * Reads a message of nine octets, from the one with the sub-service field on. It refuses what is no
+ * XCO and no XCA, as level 3 has other messages too, and never by SSCF_CHANGEOVER_REFUSED_FIELD:
+ * every nine octets with one of the two headings and a service indicator of 0 are a message. The
+ * octets are only read.
+ */
 struct sscf_changeover_answer sscf_changeover_read(const uint8_t *octets, size_t count);
 
 #ifdef __cplusplus
