@@ -1,7 +1,7 @@
 -- What the calls come to, by the checks: refused by one, or past all of them. Assumes nothing.
 use Prim.Native.Nat.{ℕ, zero, suc, _+_, _*_, _≤_, _<_}
 use native.Mathlib.Omega.{arith}
-use mathlib.Core.Path.{_≡_, refl, sym, ap, _∙_}
+use mathlib.Core.Path.{_≡_, refl, sym, ap}
 use mathlib.Core.Bool.{Bool, true, false, cond, not, _&&_, _||_, true≢false}
 use mathlib.Core.Logic.{_⊎_, inl, inr}
 use mathlib.Core.List.{List}
@@ -11,7 +11,7 @@ use borrow.Author.Tests.{eq-eqb, ne-eqb, lt-ltb, le-ltb, eqb-true, ltb-false, no
 use Rattle.unit.specs.Checks.{Verdict, passed, refused, first}
 use Rattle.changeover.specs.declared.Changeover.{Changeover}
 use Rattle.changeover.specs.Figure3.{octetsOf, messageOf}
-use Rattle.changeover.specs.Calls.{XCO, XCA, messageOctets, tooWide, checks, writing, written, writeCall, answered, nothing, read, readCall}
+use Rattle.changeover.specs.Calls.{XCO, XCA, messageOctets, tooWide, checks, writing, writeCall, answered, nothing, readCall}
 use Rattle.changeover.specs.Checked.{numberOf, tooWideBehind}
 use Rattle.changeover.proofs.Figure3.{Fits}
 

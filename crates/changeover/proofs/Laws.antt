@@ -14,7 +14,7 @@ use Rattle.octet.proofs.Octets.{octet-at, listing, listed}
 use Rattle.changeover.specs.declared.Changeover.{Changeover}
 use Rattle.changeover.specs.declared.Answer.{Answer}
 use Rattle.changeover.specs.Figure3.{octetsOf, messageOf}
-use Rattle.changeover.specs.Calls.{messageOctets, XCO, XCA, tooWide, checks, writing, Written, written, writeCall, answered, nothing, read, readCall}
+use Rattle.changeover.specs.Calls.{messageOctets, XCO, XCA, checks, writing, Written, written, writeCall, answered, nothing, read, readCall}
 use Rattle.changeover.specs.Checked.{numberOf, lowFirst}
 use Rattle.changeover.specs.Laws.{Reread, Rewritten, RefusedUntouched, RefusedEmpty, EveryRead, NeverWide}
 use Rattle.changeover.proofs.Figure3.{Fits, label, packed, low-part, octets-length, taken, unpacked, held-ssf, held-si, held-dpc, held-opc, held-slc, held-heading, held-number}

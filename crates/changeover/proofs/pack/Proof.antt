@@ -56,7 +56,9 @@ cast-t16 c =
     omega (arith, f .slc, f .dpc, f .opc)
 
 cast-t17 : tie.Need-cast-t17
-cast-t17 c = search needs
+cast-t17 c =
+    let f = sound (c .before .before .before .before .before .before .before) in
+    omega (arith, f .number)
 
 cast-t18 : tie.Need-cast-t18
 cast-t18 c = search needs

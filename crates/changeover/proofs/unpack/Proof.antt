@@ -1,10 +1,9 @@
 -- `unpack` meets its contract. Assumes nothing.
 use borrow.Author.Needs.{needs}
-use mathlib.Core.Path.{_≡_, ap, _∙_}
+use mathlib.Core.Path.{ap, _∙_}
 use Prim.Native.Nat.{ℕ, _<_}
 use native.Mathlib.Omega.{arith}
 use Rattle.octet.specs.Octets.{at}
-use Rattle.changeover.specs.declared.Changeover.{Changeover}
 use Rattle.changeover.specs.Checked.{lowFirst}
 use Rattle.changeover.proofs.Figure3.{taking, unpacked}
 use Rattle.changeover.proofs.unpack.Statement.{statement}
