@@ -113,9 +113,10 @@
  *   that is congested, hand in CONGESTION for it (again): this gives the connection up, and the
  *   link tries again after T1.
  *
- * Where the stack is short: in 0.1.1 a step takes 200 octets, by the archive's listing and on a
- * painted stack with every event in every state. glibc's memmove takes none, but where it is bound
- * lazily its first call runs the dynamic loader, which took 3 KB there.
+ * Where the stack is short: a step takes 200 octets, by the archive's listing, and in 0.1.1, which
+ * has the same code for it, also on a painted stack with every event in every state. glibc's
+ * memmove takes none, but where it is bound lazily its first call runs the dynamic loader, which
+ * took 3 KB there.
  */
 #ifndef SSCF_H
 #define SSCF_H
@@ -551,8 +552,9 @@ uint32_t sscf_version(void);
  *         hand_on_signals(out, answer);
  *     }
  *
- * The calls keep nothing. Proved of both, for every message and all octets: what was written is
- * read as the same fields, and what was read is written as the same nine octets.
+ * The calls keep nothing. As with a step, each pointer is good for the length beside it, and a
+ * length of 0 may come with any pointer. Proved of both, for every message and all octets: what was
+ * written is read as the same fields, and what was read is written as the same nine octets.
  */
 
 #define SSCF_CHANGEOVER_OCTETS 9
