@@ -157,8 +157,9 @@ extern "C" {
  *      5      UPS, what the user wishes, SSCF_UPS_...
  *      6      the timers running, a sum of SSCF_TIMER_...
  *      7      1 if BSNT is known, else 0
- *      8-10   BSNT, the number of the latest DATA accepted, units among them, kept until the next
- *             DATA, also through later connections; 0 where not known
+ *      8-10   BSNT, the number of the latest DATA accepted, whatever became of it (a unit, or one
+ *             that was dropped or a protocol error, counts too), kept until the next DATA, also
+ *             through later connections; 0 where not known
  *      11     0
  *      12-13  C1, the proving units still to be sent
  *      14-15  n1, the proving units of normal proving, at least 1
@@ -350,7 +351,7 @@ enum sscf_signal {
     SSCF_SIGNAL_RELEASE_REQUEST = 18,      /* octet 5: OOS, PO, ANS, MI, PE or PNS */
     SSCF_SIGNAL_DATA_REQUEST = 19,         /* message: a unit, NM or INS, or the user's message */
     SSCF_SIGNAL_RECOVER_RESPONSE = 20,
-    SSCF_SIGNAL_RETRIEVE_REQUEST = 21,     /* number: RN, the FSNC of the event */
+    SSCF_SIGNAL_RETRIEVE_REQUEST = 21,     /* number: RN, the FSNC of the event; from RN + 1 on */
 
     /* To layer management, which monitors errors from START_PROVING to STOP_PROVING. Two events in
      * state 6 end proving with no STOP_PROVING, PROVING_UNSUCCESSFUL and RELEASE: they come from
@@ -489,42 +490,52 @@ uint32_t sscf_version(void);
  * CHANGEOVER MESSAGES
  *
  * For the user of the links, MTP level 3 by ITU-T Q.2210 (07/96). When a link fails, its two ends
- * tell each other over another link which of the other's messages they accepted last: by an order,
- * XCO, and an acknowledgement, XCA. Each then sends again, over another link, what the other has
- * not accepted. Links over SSCOP count messages with 24 bits, and so do these two, the extended
- * ones of Q.2210, clause 9.8.1. They are nine octets:
+ * tell each other over another link the number of the last message that each accepted: by an
+ * extended changeover order, XCO, and its acknowledgement, XCA. Each then sends again, over another
+ * link, what the other has not accepted. Links over SSCOP count messages with 24 bits, and so do
+ * these two messages, of clause 9.8.1. They are nine octets, which is level 3's whole message, as
+ * MESSAGE_FOR_TRANSMISSION and RECEIVED_MESSAGE carry it:
  *
  *     bit  8   7   6   5   4   3   2   1
- *        |  sub-service  |  service = 0  |  octet 1
+ *        |  sub-service  |  service = 0  |  octet 1, the SIO
  *        |              DPC              |  octet 2
  *        |  OPC  |          DPC          |  octet 3
  *        |              OPC              |  octet 4
  *        |      SLC      |      OPC      |  octet 5
- *        |  H1 = 3 or 4  |    H0 = 1     |  octet 6
+ *        |  H1 = 3 or 4  |    H0 = 1     |  octet 6, the heading
  *        |            number             |  octet 7
  *        |            number             |  octet 8
  *        |            number             |  octet 9
  *
- * A field that goes over several octets begins with its lowest bits, in the first of them.
+ * Unlike the records above, a field that goes over several octets has its lowest bits in the first
+ * of them: 197121 is 01 02 03 here, and 03 02 01 in a signal.
  *
- * When to send which:
+ * The number is one and the same by three names: the FSN of the last message accepted, the BSNT of
+ * the end that sends it, the FSNC of the end that gets it. When to send which:
  *
- * - A link has left service, by OUT_OF_SERVICE or by a STOP of the user's own, and its traffic is
- *   to go another way. Hand in RETRIEVE_BSNT for it: out of service it is accepted. The number of
- *   BSNT goes into an XCO, sent over another link, with the SLC of the link that failed and the
- *   point codes of its far end (DPC) and of this one (OPC).
- * - The XCA that comes back has the number of the last message that the far end accepted from here.
- *   Hand it in as the FSNC of RETRIEVAL_REQUEST_AND_FSNC. What then comes as RETRIEVED_MESSAGES the
- *   far end has not accepted: it is sent again, in its order, until RETRIEVAL_COMPLETE.
- * - At an XCO from the far end the link has failed here too, also where it is still in service:
- *   then STOP it. Answer by an XCA with the number of this end's own BSNT, and hand in the XCO's
- *   number as FSNC, as above.
- * - After BSNT_NOT_RETRIEVABLE there is no number, and neither of the two can be sent. Nor should
- *   one be if the link came up anew and received nothing on that connection: BSNT is then still
- *   that of the connection before (see the link record). Q.704's emergency changeover is for such
- *   cases; it is not written here.
+ * - A link is out of service, states 1 and 2, by OUT_OF_SERVICE or by a STOP of the user's own, and
+ *   its traffic is to go another way. Hand in RETRIEVE_BSNT. The number of BSNT goes into an XCO,
+ *   with the SLC of that link, the point code of its far end as DPC and that of this end as OPC.
+ * - The XCA that comes back has the far end as its OPC. Hand its number in as the FSNC of
+ *   RETRIEVAL_REQUEST_AND_FSNC. SSCOP gives back what it was to send after the message with that
+ *   number; all that then comes as RETRIEVED_MESSAGES, until RETRIEVAL_COMPLETE, is sent again, in
+ *   its order.
+ * - An XCO that comes says that the link has failed for the far end. In states 3 to 8 STOP it, once
+ *   all DATA that SSCOP has given is handed in: behind the STOP it would be refused, and not be
+ *   counted. Then RETRIEVE_BSNT, an XCA with that number, DPC and OPC exchanged, and the XCO's own
+ *   number as FSNC. Where two orders cross, each brings what the acknowledgement would: the number
+ *   is handed in once.
+ * - START waits until all this is over: from state 3 on RETRIEVE_BSNT and the FSNC are refused.
+ * - After BSNT_NOT_RETRIEVABLE there is no number to send. Nor is BSNT a number to send if nothing
+ *   was received on the link's latest connection: it is then still that of the connection before
+ *   (see the link record), and the library does not tell. A link that was in service on its latest
+ *   connection has received the peer's INS unit on it. Q.704 has an emergency changeover for an end
+ *   without a number. It is not written here, and there is no FSNC for "unknown".
  *
- * Link 2 has left service, and an XCO is to be sent to 4660 from 13602, where the link has code 5:
+ * How long to wait for an XCA, and whether a number can be right, is level 3's to know.
+ *
+ * Link 2 is out of service. An XCO is to go to 4660 from 13602, where the link's SLC is 5; the
+ * sub-service field is 8, network indicator 2 in its upper two bits:
  *
  *     uint8_t ask[SSCF_HEAD_OCTETS] = {'E', 'V', 0, 2, SSCF_EVENT_RETRIEVE_BSNT};
  *     struct sscf_changeover order = {8, 0, 4660, 13602, 5, SSCF_CHANGEOVER_XCO, 0};
@@ -537,11 +548,12 @@ uint32_t sscf_version(void);
  *             send_over_another_link(xco, sizeof xco);
  *     }
  *
- * With BSNT 197121 these are sent: 80 34 92 48 5d 31 01 02 03. And when a message comes:
+ * With BSNT 197121 these are sent: 80 34 92 48 5d 31 01 02 03. And when a message of level 3 comes:
  *
  *     struct sscf_changeover_answer came = sscf_changeover_read(message, length);
  *
- *     if (came.refusal == SSCF_ACCEPTED && came.message.heading == SSCF_CHANGEOVER_XCA) {
+ *     if (came.refusal == SSCF_ACCEPTED && came.message.heading == SSCF_CHANGEOVER_XCA &&
+ *         came.message.opc == order.dpc && came.message.slc == order.slc) {
  *         uint8_t fetch[SSCF_HEAD_OCTETS] = {'E', 'V', 0, 2};
  *
  *         fetch[4] = SSCF_EVENT_RETRIEVAL_REQUEST_AND_FSNC;
@@ -552,9 +564,11 @@ uint32_t sscf_version(void);
  *         hand_on_signals(out, answer);
  *     }
  *
- * The calls keep nothing. As with a step, each pointer is good for the length beside it, and a
- * length of 0 may come with any pointer. Proved of both, for every message and all octets: what was
- * written is read as the same fields, and what was read is written as the same nine octets.
+ * The two calls keep nothing and know of no table. A program that makes no other call links nothing
+ * else of the library. As with a step, the pointer is good for the length beside it, nobody else
+ * touches the octets during the call, and a length of 0 may come with any pointer. Proved, for
+ * every message and all octets: what was written is read as the same fields, and what was read is
+ * written as the same nine octets.
  */
 
 #define SSCF_CHANGEOVER_OCTETS 9
@@ -568,23 +582,26 @@ enum sscf_changeover_heading {
 /*
  * The refusals of these two calls, which are not those of a step: each is given exactly where it is
  * listed, and where several things are wrong the lowest number is answered. A refusal changes
- * nothing.
+ * nothing. What is refused on reading is no XCO and no XCA, and may be another message of level 3;
+ * what is refused on writing is the host's fault. sscf_changeover_refusal_name of sscf_host.h has
+ * them as strings.
  */
 enum sscf_changeover_refusal {
     SSCF_CHANGEOVER_REFUSED_LENGTH = 1,  /* the output, or the input, is not nine octets long */
     SSCF_CHANGEOVER_REFUSED_HEADING = 2, /* the heading is neither XCO nor XCA */
     SSCF_CHANGEOVER_REFUSED_SERVICE = 3, /* the service indicator is not 0 */
-    SSCF_CHANGEOVER_REFUSED_FIELD = 4    /* writing only: another field is too wide */
+    SSCF_CHANGEOVER_REFUSED_FIELD = 4    /* writing only: sub_service, dpc, opc, slc or number is
+                                            above its range */
 };
 
-/* A changeover message, its fields in the order of their first bits. */
+/* A changeover message. */
 struct sscf_changeover {
-    uint8_t sub_service; /* 0 to 15 */
-    uint8_t service;     /* service indicator, 0: signalling network management */
+    uint8_t sub_service; /* sub-service field, SSF, 0 to 15 */
+    uint8_t service;     /* service indicator, SI, 0: signalling network management */
     uint16_t dpc, opc;   /* point codes of destination and origin, 0 to 16,383 */
     uint8_t slc;         /* signalling link code, 0 to 15 */
     uint8_t heading;     /* SSCF_CHANGEOVER_XCO or SSCF_CHANGEOVER_XCA */
-    uint32_t number;     /* of the last message accepted, 0 to 16,777,215 */
+    uint32_t number;     /* FSN of the last message accepted, 0 to 16,777,215 */
 };
 
 /* What the reader answers. */
@@ -600,10 +617,9 @@ struct sscf_changeover_answer {
 uint32_t sscf_changeover_write(uint8_t *out, size_t out_octets, struct sscf_changeover message);
 
 /*
- * Reads a message of nine octets, from the one with the sub-service field on. It refuses what is no
- * XCO and no XCA, as level 3 has other messages too, and never by SSCF_CHANGEOVER_REFUSED_FIELD:
- * every nine octets with one of the two headings and a service indicator of 0 are a message. The
- * octets are only read.
+ * Reads a message of nine octets, the SIO first; a longer one is refused, not cut. It never answers
+ * SSCF_CHANGEOVER_REFUSED_FIELD: every nine octets with one of the two headings and a service
+ * indicator of 0 are a message. The octets are only read.
  */
 struct sscf_changeover_answer sscf_changeover_read(const uint8_t *octets, size_t count);
 

@@ -155,8 +155,8 @@ static inline const uint8_t *sscf_next_signal(const uint8_t *out, struct sscf_an
  * NAMES
  *
  * Each code as Q.2140 has it, a changeover's heading as Q.2210 has it, and refusals in a few words;
- * "?" if there is no such code. Status codes and a REPORT's values are the abbreviations of Table 6,
- * so that its {LR,OOS,-} can be printed as it stands there: 0 in a REPORT is "-". The trace's
+ * "?" if there is no such code. Status codes and a REPORT's values are Table 6's abbreviations, so
+ * that its {LR,OOS,-} can be printed as it stands there: 0 in a REPORT is "-". The trace's
  * scripts, host/names and host/ladder of the sources, print the shorter names of sscf.h's constants
  * instead: what is START_PROVING there is MAAL-PROVING-indication here.
  */

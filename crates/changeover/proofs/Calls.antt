@@ -9,6 +9,7 @@ use lib.Dec.{eqb, ltb}
 use lib.ListN.{length, drop}
 use borrow.Author.Tests.{eq-eqb, ne-eqb, lt-ltb, le-ltb, eqb-true, ltb-false, not-false}
 use Rattle.unit.specs.Checks.{Verdict, passed, refused, first}
+use Rattle.octet.proofs.Branches.{neither, either}
 use Rattle.changeover.specs.declared.Changeover.{Changeover}
 use Rattle.changeover.specs.Figure3.{octetsOf, messageOf}
 use Rattle.changeover.specs.Calls.{XCO, XCA, messageOctets, tooWide, checks, writing, writeCall, answered, nothing, readCall}
@@ -65,14 +66,6 @@ passes m h =
     rw (t .0, t .1, t .2)
 
 -- and all fields fit
-neither : (a b : Bool) → a || b ≡ false → (a ≡ false) × (b ≡ false)
-neither true b h = absurd (true≢false h)
-neither false b h = (refl, h)
-
-either : (a b : Bool) → a || b ≡ true → (a ≡ true) ⊎ (b ≡ true)
-either true b h = inl refl
-either false b h = inr h
-
 headed-small : (h : ℕ) → (eqb h XCO ≡ true) ⊎ (eqb h XCA ≡ true) → h ≤ 255
 headed-small h (inl e) = omega (arith, eqb-true h XCO e)
 headed-small h (inr e) = omega (arith, eqb-true h XCA e)

@@ -12,7 +12,7 @@ use Rattle.changeover.specs.Figure3.{octetsOf, messageOf}
 abbrev pub messageOctets : ℕ
 messageOctets = 9
 
--- The heading, H1 before H0. H1: extended changeover order, extended changeover acknowledgement.
+-- The headings: H1, the bits D C B A of clause 9.8.1, and then H0. An extended changeover order has 0 0 1 1, its acknowledgement 0 1 0 0.
 abbrev pub XCO : ℕ
 XCO = 0b00110001
 
@@ -33,7 +33,7 @@ REFUSED-SERVICE = 3
 abbrev pub REFUSED-FIELD : ℕ
 REFUSED-FIELD = 4
 
--- four bits, fourteen, fourteen, four, twenty-four
+-- "Sub-service or SLC above 15, DPC or OPC above 16,383, number above 16,777,215."
 abbrev pub tooWide : Changeover → Bool
 tooWide m = ltb 15 (m .ssf) || ltb 16383 (m .dpc) || ltb 16383 (m .opc) || ltb 15 (m .slc) || ltb 16777215 (m .number)
 

@@ -22,6 +22,7 @@ use Rattle.link.specs.declared.Event.{Event}
 use Rattle.link.specs.Signal.{num, none}
 use Rattle.event.specs.declared.Reading.{Reading}
 use Rattle.octet.specs.Octets.{at}
+use Rattle.octet.proofs.Branches.{neither}
 use Rattle.event.specs.Frame.{EV, lengthAt, linkAt, numberAt, messageOf, codeAt, paramAt, written}
 use Rattle.event.specs.EventRecord.{framed, events, Coded, among, Each, codedAt, codedIn, said, isStatus, hasMessage, hasNumber, hasField, hasParameter, isZero}
 use Rattle.event.specs.EventRecord.{misfit, reading, fitting, saying, fieldsOf, readingOf, Holds, Carried, carrying, carried, Rewritten, Reread}
@@ -68,10 +69,6 @@ reading-tells e r h =
     subst (ToldOf e) (ap back (sym h) ∙ back-is r) (tells (framed e) (codedIn e) (misfit (codeAt e) (paramAt e) (numberAt e) (lengthAt e)))
 
 -- WHAT THE FIELDS COME TO, code by code
-
-pub neither : (a b : Bool) → a || b ≡ false → (a ≡ false) × (b ≡ false)
-neither true b h = absurd (true≢false h)
-neither false b h = (refl, h)
 
 fitted : (x : Coded) (m : Bool) → coded x ≡ true → fitting m ≡ saying x m
 fitted Coded.Unknown m h = absurd (true≢false (sym h))

@@ -1,6 +1,7 @@
--- What `&&` and `||` come to, on either way through them. Assumes nothing.
-use mathlib.Core.Path.{_≡_, sym, ap, _∙_}
-use mathlib.Core.Bool.{Bool, true, false, _&&_, _||_}
+-- What `&&` and `||` come to, on either way through them, and what `||` tells of its two sides. Assumes nothing.
+use mathlib.Core.Path.{_≡_, refl, sym, ap, _∙_}
+use mathlib.Core.Bool.{Bool, true, false, _&&_, _||_, true≢false}
+use mathlib.Core.Logic.{_⊎_, inl, inr}
 
 -- the second test decides
 pub on : {a b x : Bool} → a ≡ true → x ≡ b → x ≡ (a && b)
@@ -15,3 +16,11 @@ or-on b p q = q ∙ p ∙ ap (λ v. v || b) (sym p)
 
 pub or-off : {a b x : Bool} → a ≡ false → x ≡ b → x ≡ (a || b)
 or-off {b = b} p q = q ∙ ap (λ v. v || b) (sym p)
+
+pub neither : (a b : Bool) → a || b ≡ false → (a ≡ false) × (b ≡ false)
+neither true b h = absurd (true≢false h)
+neither false b h = (refl, h)
+
+pub either : (a b : Bool) → a || b ≡ true → (a ≡ true) ⊎ (b ≡ true)
+either true b h = inl refl
+either false b h = inr h

@@ -7,7 +7,7 @@ use mathlib.Core.List.{List}
 use lib.Dec.{eqb, ltb}
 use lib.ListN.{length, length-take, length-drop}
 use borrow.Author.Tests.{eqb-true, not-false}
-use Rattle.event.proofs.EventRecord.{neither}
+use Rattle.octet.proofs.Branches.{neither}
 use Rattle.sscf.specs.Step.{badTable, records, recordAt}
 
 -- a record within the table has sixteen octets, and its place is within too
