@@ -4,11 +4,12 @@ use native.Mathlib.Omega.{arith}
 use mathlib.Core.Path.{_≡_, refl, sym, ap}
 use mathlib.Core.Bool.{Bool, true, false, cond, not, _&&_, _||_, true≢false}
 use mathlib.Core.Logic.{_⊎_, inl, inr}
-use mathlib.Core.List.{List}
+use mathlib.Core.List.{List, [], _∷_}
 use lib.Dec.{eqb, ltb}
 use lib.ListN.{length, drop}
 use borrow.Author.Tests.{eq-eqb, ne-eqb, lt-ltb, le-ltb, eqb-true, ltb-false, not-false}
-use Rattle.unit.specs.Checks.{Verdict, passed, refused, first}
+use Rattle.unit.specs.Checks.{Check, Verdict, passed, refused, first}
+use Rattle.unit.proofs.Checks.{clear}
 use Rattle.octet.proofs.Branches.{neither, either}
 use Rattle.changeover.specs.declared.Changeover.{Changeover}
 use Rattle.changeover.specs.Figure3.{octetsOf, messageOf}
@@ -53,17 +54,21 @@ pub one-not : (ssf si : ℕ) → 15 < ssf + si * 256 → not (eqb si 0) || ltb 1
 one-not ssf zero h = lt-ltb 15 ssf (omega arith)
 one-not ssf (suc si) h = rw (ne-eqb (suc si) 0 (omega arith))
 
--- where none refuses, none of the three holds
-none-holds : (a b c : Bool) → three a b c ≡ 0 → (a ≡ false) × (b ≡ false) × (c ≡ false)
-none-holds true b c h = absurd (omega arith)
-none-holds false true c h = absurd (omega arith)
-none-holds false false true h = absurd (omega arith)
-none-holds false false false h = (refl, refl, refl)
+-- no check has the number 0, so where that is answered none refuses
+abbrev Numbered : List (Check ℕ) → Type 0
+Numbered [] = Unit {0}
+Numbered (c ∷ cs) = (1 ≤ c .refusal) × Numbered cs
+
+by-test : (b : Bool) (k : ℕ) (v : Verdict ℕ) → 1 ≤ k → (numberOf v ≡ 0 → v ≡ passed) → numberOf (cond b (refused k) v) ≡ 0 → cond b (refused k) v ≡ passed
+by-test true k v n f h = absurd (omega arith)
+by-test false k v n f h = f h
+
+none-refuses : (cs : List (Check ℕ)) → Numbered cs → numberOf (first cs) ≡ 0 → first cs ≡ passed
+none-refuses [] n h = refl
+none-refuses (c ∷ cs) n h = by-test (c .holds) (c .refusal) (first cs) (n .0) (none-refuses cs (n .1)) h
 
 pub passes : (m : Changeover) → numberOf (onMessage m) ≡ 0 → onMessage m ≡ passed
-passes m h =
-    let t = none-holds (not (eqb (m .heading) XCO || eqb (m .heading) XCA)) (not (eqb (m .si) 0)) (tooWide m) h in
-    rw (t .0, t .1, t .2)
+passes m h = none-refuses (drop 1 (checks messageOctets m)) (omega arith, (omega arith, (omega arith, tt))) h
 
 -- and all fields fit
 headed-small : (h : ℕ) → (eqb h XCO ≡ true) ⊎ (eqb h XCA ≡ true) → h ≤ 255
@@ -79,14 +84,14 @@ fits m h =
     let w3 = ltb 16383 (m .opc) in
     let w4 = ltb 15 (m .slc) in
     let w5 = ltb 16777215 (m .number) in
-    let t = none-holds (not (o || a)) (not (eqb (m .si) 0)) (tooWide m) h in
-    let n4 = neither (w1 || w2 || w3 || w4) w5 (t .2) in
+    let t = clear (drop 1 (checks messageOctets m)) (passes m h) in
+    let n4 = neither (w1 || w2 || w3 || w4) w5 (t .1 .1 .0) in
     let n3 = neither (w1 || w2 || w3) w4 (n4 .0) in
     let n2 = neither (w1 || w2) w3 (n3 .0) in
     let n1 = neither w1 w2 (n2 .0) in
     record {
       ssf = ltb-false 15 (m .ssf) (n1 .0);
-      si = omega (arith, eqb-true (m .si) 0 (not-false (eqb (m .si) 0) (t .1)));
+      si = omega (arith, eqb-true (m .si) 0 (not-false (eqb (m .si) 0) (t .1 .0)));
       dpc = ltb-false 16383 (m .dpc) (n1 .1);
       opc = ltb-false 16383 (m .opc) (n2 .1);
       slc = ltb-false 15 (m .slc) (n3 .1);

@@ -79,18 +79,18 @@ allOctets m (o ∷ others) = octetOf m o ∷ allOctets m others
 unfoldable pub octetsOf : Changeover → List ℕ
 octetsOf m = allOctets m figure3
 
--- READING. What an octet x gives to a field, and what all of them give, from octet i on.
-abbrev pub place : Field → ℕ
-place SSF = 1
-place SI = 2
-place DPC = 3
-place OPC = 4
-place SLC = 5
-place HEADING = 6
-place FSN = 7
+-- READING. What an octet x gives to a field, and what all of them give, from octet i on. The fields are told apart by numbers that mean nothing else.
+abbrev pub tag : Field → ℕ
+tag SSF = 0
+tag SI = 1
+tag DPC = 2
+tag OPC = 3
+tag SLC = 4
+tag HEADING = 5
+tag FSN = 6
 
 abbrev pub given : Field → ℕ → Bits → ℕ
-given f x b = cond (eqb (place f) (place (b .field))) (x % 2 ^ width b * 2 ^ b .low) 0
+given f x b = cond (eqb (tag f) (tag (b .field))) (x % 2 ^ width b * 2 ^ b .low) 0
 
 abbrev pub givenBy : Field → ℕ → Octet → ℕ
 givenBy f x (whole b) = given f x b
