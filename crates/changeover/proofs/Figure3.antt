@@ -1,5 +1,6 @@
 -- Figure 3's octets as the code makes them and takes them apart: octets 2 to 5 are one number, its low octet first. Assumes nothing.
 use Prim.Native.Nat.{ℕ, _+_, _*_, _/_, _%_, _≤_, _<_}
+use native.Mathlib.Nat.{add-mul-mod-self-left, mod-eq-of-lt}
 use native.Mathlib.Omega.{arith}
 use mathlib.Core.Path.{_≡_, refl, sym, ap, _∙_}
 use mathlib.Core.List.{List, [], _∷_}
@@ -49,7 +50,7 @@ packed m f =
     let f7 = f .number in
     cons (omega arith) (cons (omega arith) (cons (omega arith) (cons (omega arith) (cons (omega arith) (cons (omega arith) (cons (omega arith) (cons (omega arith) (cons (omega arith) λ i. []))))))))
 
--- the same by the two point codes from octet 3 on
+-- the same by one number from octet 3 on: what is left of DPC, OPC and SLC
 abbrev pub codes : Changeover → ℕ
 codes m = m .dpc / 256 + m .opc * 64 + m .slc * 1048576
 
@@ -118,15 +119,16 @@ unfolding messageOf
 held-number r =
     let p : held FSN r 0 figure3 ≡ sum (0 + 0) 0 (0 + 0) 0 (0 + 0) (0 + 0) (at r 6 % 256 * 1) (at r 7 % 256 * 256) (at r 8 % 256 * 65536) = refl in p ∙ omega arith
 
--- the fourteen bits in the middle
-pub low-part : (x s : ℕ) → x < 16384 → (x + 16384 * s) % 16384 ≡ x
-low-part x s h = omega arith
+-- what stands below a multiple of k
+pub low-part : (k x s : ℕ) → x < k → (x + k * s) % k ≡ x
+low-part k x s h = add-mul-mod-self-left x k s ∙ mod-eq-of-lt h
 
+-- the fourteen bits in the middle
 middle : (a b c d : ℕ) → a < 256 → b < 256 → c < 256 → lowFirst a b c d / 16384 % 16384 ≡ b / 64 % 4 + c % 256 * 4 + d % 16 * 1024
 middle a b c d ha hb hc =
     let x = b / 64 % 4 + c % 256 * 4 + d % 16 * 1024 in
     let e : lowFirst a b c d / 16384 ≡ x + 16384 * (d / 16) = omega arith in
-    ap (λ (n : ℕ). n % 16384) e ∙ low-part x (d / 16) (omega arith)
+    ap (λ (n : ℕ). n % 16384) e ∙ low-part 16384 x (d / 16) (omega arith)
 
 pub unpacked : (r : List ℕ) → ((i : ℕ) → at r i < 256) → taken r ≡ messageOf r
 unpacked r b =

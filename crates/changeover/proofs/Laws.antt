@@ -58,7 +58,8 @@ every-read r l h s =
     sym (read-accepted r l (rw (good-heading r h, eq-eqb (messageOf r .si) 0 (held-si r ∙ s), never-wide r) refl))
 
 -- THERE AND BACK
--- the fields of a message out of the octets that the code writes
+
+-- what is written is octets
 octets-of : (m : Changeover) → Fits m → Octets (octetsOf m)
 octets-of m f =
     let f1 = f .ssf in
@@ -70,6 +71,7 @@ octets-of m f =
     let f7 = f .number in
     subst Octets (packed m f) (omega arith, (omega arith, (omega arith, (omega arith, (omega arith, (omega arith, (omega arith, (omega arith, (omega arith, tt)))))))))
 
+-- and holds the same message
 message-back : (m : Changeover) → Fits m → messageOf (octetsOf m) ≡ m
 message-back m f =
     let f1 = f .ssf in
@@ -85,16 +87,14 @@ message-back m f =
     let si : (m .ssf * 16 + m .si) % 16 ≡ m .si = omega arith in
     let dpc : label m % 16384 ≡ m .dpc = omega arith in
     let above : label m / 16384 ≡ m .opc + 16384 * m .slc = omega arith in
-    let opc : label m / 16384 % 16384 ≡ m .opc = ap (λ (x : ℕ). x % 16384) above ∙ low-part (m .opc) (m .slc) (omega arith) in
+    let opc : label m / 16384 % 16384 ≡ m .opc = ap (λ (x : ℕ). x % 16384) above ∙ low-part 16384 (m .opc) (m .slc) (omega arith) in
     let slc : label m / 268435456 ≡ m .slc = omega arith in
     sym (unpacked r (octet-at r (octets-of m f)))
     ∙ ap taken (sym (packed m f))
     ∙ (λ i. record { ssf = ssf i; si = si i; dpc = l i % 16384; opc = l i / 16384 % 16384; slc = l i / 268435456; heading = m .heading; number = n i })
     ∙ (λ i. record { ssf = m .ssf; si = m .si; dpc = dpc i; opc = opc i; slc = slc i; heading = m .heading; number = m .number })
 
-low-octet : (x s : ℕ) → x < 256 → (x + 256 * s) % 256 ≡ x
-low-octet x s h = omega arith
-
+-- a label put together of its parts
 rejoined : (l : ℕ) → l % 16384 + l / 16384 % 16384 * 16384 + l / 268435456 * 268435456 ≡ l
 rejoined l =
     let q : l / 268435456 ≡ l / 16384 / 16384 = omega arith in
@@ -119,12 +119,12 @@ octets-back r o n f =
     let e1 : l % 256 ≡ at r 1 = omega arith in
     let u2 : l / 256 ≡ at r 2 + 256 * (at r 3 + 256 * at r 4) = omega arith in
     let u3 : l / 65536 ≡ at r 3 + 256 * at r 4 = omega arith in
-    let e2 : l / 256 % 256 ≡ at r 2 = ap (λ (x : ℕ). x % 256) u2 ∙ low-octet (at r 2) (at r 3 + 256 * at r 4) b2 in
-    let e3 : l / 65536 % 256 ≡ at r 3 = ap (λ (x : ℕ). x % 256) u3 ∙ low-octet (at r 3) (at r 4) b3 in
+    let e2 : l / 256 % 256 ≡ at r 2 = ap (λ (x : ℕ). x % 256) u2 ∙ low-part 256 (at r 2) (at r 3 + 256 * at r 4) b2 in
+    let e3 : l / 65536 % 256 ≡ at r 3 = ap (λ (x : ℕ). x % 256) u3 ∙ low-part 256 (at r 3) (at r 4) b3 in
     let e4 : l / 16777216 ≡ at r 4 = omega arith in
     let e6 : k % 256 ≡ at r 6 = omega arith in
     let u7 : k / 256 ≡ at r 7 + 256 * at r 8 = omega arith in
-    let e7 : k / 256 % 256 ≡ at r 7 = ap (λ (x : ℕ). x % 256) u7 ∙ low-octet (at r 7) (at r 8) b7 in
+    let e7 : k / 256 % 256 ≡ at r 7 = ap (λ (x : ℕ). x % 256) u7 ∙ low-part 256 (at r 7) (at r 8) b7 in
     let e8 : k / 65536 ≡ at r 8 = omega arith in
     ap octetsOf (sym (unpacked r b))
     ∙ sym (packed m (subst Fits (sym (unpacked r b)) f))

@@ -1,6 +1,6 @@
 -- `checked` meets its contract: the first test that holds is the first check that does. Assumes nothing.
 use mathlib.Core.Path.{_≡_, sym, ap, _∙_}
-use mathlib.Core.Bool.{not, _||_, true, false}
+use mathlib.Core.Bool.{false, not, _||_}
 use lib.Dec.{eqb}
 use borrow.Author.Needs.{needs}
 use borrow.Author.Tests.{eq-eqb, ne-eqb}
