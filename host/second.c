@@ -166,7 +166,10 @@ static bool give_up(struct step *s, unsigned state)
     return go(s, state);
 }
 
-/* Table 7, and the INS flag: both belong to the moment when a connection comes up. */
+/*
+ * Table 7, the INS flag and BSNT: all belong to the moment when a connection comes up. A BSNT kept
+ * longer would hand the changeover a number from the earlier connection; a release leaves it.
+ */
 static void connection_up(struct step *s)
 {
     uint8_t *link = s->link;
@@ -174,6 +177,8 @@ static void connection_up(struct step *s)
               || (link[MPS] == MPS_NEUTRAL && link[UPS] == UPS_NORMAL && s->event[PARAMETER] != EM);
 
     link[FLAGS] &= (uint8_t)~INS_FLAG;
+    link[KNOWN] = 0;
+    memset(link + BSNT, 0, 3);
     link[C1] = prove ? link[N1] : 0;
     link[C1 + 1] = prove ? link[N1 + 1] : 0;
 }

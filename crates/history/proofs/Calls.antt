@@ -1,27 +1,21 @@
--- The invariant over any sequence of calls, on octets. Assumes nothing.
+-- An invariant over any sequence of calls, on octets: what a fresh link has and each event keeps holds of every link, after each call. Assumes nothing.
 use mathlib.Core.Path.{_≡_, refl, sym, ap, subst, _∙_}
-use mathlib.Core.Bool.{Bool, true, false, cond, true≢false, or-true}
+use mathlib.Core.Bool.{Bool, true, false, cond}
 use mathlib.Core.List.{List, [], _∷_, map}
 use Prim.Native.Nat.{ℕ, _*_, _/_, _≤_, _<_}
 use native.Mathlib.Omega.{arith}
-use lib.Dec.{eqb, leb}
+use lib.Dec.{eqb}
 use lib.ListN.{length}
-use borrow.Author.Tests.{eqb-true, eqb-false, leb-false}
-use Rattle.unit.specs.declared.Arrived.{Arrived}
-use Rattle.unit.specs.Unit.{arrived}
-use Rattle.table6.specs.EventCodes.{MESSAGE-FOR-TRANSMISSION}
+use borrow.Author.Tests.{eqb-true, eqb-false}
 use Rattle.link.specs.declared.Link.{Link}
-use Rattle.link.specs.declared.Num.{Num}
 use Rattle.link.specs.declared.Signal.{Signal}
 use Rattle.link.specs.Fresh.{freshLink}
 use Rattle.link.specs.Step as machine
-use Rattle.link.specs.Stored.{viewOf}
 use Rattle.record.specs.LinkRecord.{linkOf, octetsOf}
-use Rattle.event.specs.Frame.{EV, linkAt, codeAt, paramAt, numberAt, lengthAt, messageOf}
-use Rattle.event.specs.EventRecord.{Coded, codedIn, said, eventOf, misfit}
+use Rattle.event.specs.Frame.{linkAt, codeAt, paramAt, numberAt, lengthAt, messageOf}
+use Rattle.event.specs.EventRecord.{framed, codedIn, eventOf, misfit}
 use Rattle.signal.specs.SignalRecord.{signalOctets, joined}
 use Rattle.record.proofs.LinkRecord.{unpacked, octets-length}
-use Rattle.event.proofs.Frame.{message-length}
 use Rattle.signal.proofs.SignalRecord.{signals-apart}
 use Rattle.sscf.specs.declared.checks.Refusal.{Refusal}
 use Rattle.unit.specs.Checks.{Verdict, passed, refused, first}
@@ -36,9 +30,6 @@ use Rattle.sscf.proofs.Copies.{length-copies}
 use Rattle.sscf.proofs.AllFresh.{all-fresh}
 use Rattle.history.specs.Calls.{Call, fresh, step, Seen, cut, signalsIn, World, made, next, run, AfterEachCall}
 use Rattle.history.specs.History.{Mark, with-signals, eventMark, marks, history}
-use Rattle.history.proofs.Table.{sortAt}
-use Rattle.history.proofs.Events.{Told, Fits, fits}
-use Rattle.history.proofs.Step.{Inv, fresh-ok, Keeps, step-ok}
 
 -- WHAT THE OUTPUT HOLDS: the records of the signals, one by one
 cut-joined : (k : ℕ) (m : List ℕ) (ss : List Signal) → cut (length ss) (joined k m ss) ≡ map (signalOctets k m) ss
@@ -50,46 +41,37 @@ cut-joined k m (s ∷ ss) =
 pub emitted-ones : (t e : List ℕ) (after : Outcome) (w : Written t e after) → signalsIn after ≡ map (signalOctets (linkAt e) (messageOf e)) (w .signals)
 emitted-ones t e after w = rw (w .counted, w .octets) (cut-joined (linkAt e) (messageOf e) (w .signals))
 
--- WHAT THE EVENT SAYS
-pub long-message : (m : List ℕ) → 5 ≤ length m → arrived m ≡ Arrived.Long
-unfolding arrived
-long-message [] h = absurd (omega arith)
-long-message (a ∷ []) h = absurd (omega arith)
-long-message (a ∷ b ∷ []) h = absurd (omega arith)
-long-message (a ∷ b ∷ c ∷ []) h = absurd (omega arith)
-long-message (a ∷ b ∷ c ∷ d ∷ []) h = absurd (omega arith)
-long-message (a ∷ b ∷ c ∷ d ∷ e ∷ m) h = refl
+-- AN EVENT THAT IS TAKEN: checks 2 to 4 have passed it
+pub record Passed (e : List ℕ) : Type 0 where
+  pub sound : framed e ≡ true
+  pub known : unknown (codedIn e) ≡ false
+  pub fits : misfit (codeAt e) (paramAt e) (numberAt e) (lengthAt e) ≡ false
 
-user-message : (p : ℕ) (n : Num) (len : ℕ) → misfit MESSAGE-FOR-TRANSMISSION p n len ≡ false → 5 ≤ len
-unfolding misfit
-user-message p n len e = by (leb len 4) refl where
-  by : (b : Bool) → leb len 4 ≡ b → 5 ≤ len
-  by true q = let z : misfit MESSAGE-FOR-TRANSMISSION p n len ≡ true = simp (q, or-true) in absurd (true≢false (sym z ∙ e))
-  by false q = leb-false len 4 q
+passed-by : (t e : List ℕ) (room : ℕ) → first (checks t e room) ≡ passed → Passed e
+passed-by t e room h =
+    let c = clear (checks t e room) h in
+    record { sound = taken t e room h .sound; known = c .1 .1 .0; fits = c .1 .1 .1 .0 }
 
--- the event of an accepted step is of the sort of the row that it meets
-module _ (t e : List ℕ) (room : ℕ) (h : first (checks t e room) ≡ passed) (c1 : ℕ) where
-  long-if-user : codeAt e ≡ MESSAGE-FOR-TRANSMISSION → arrived (messageOf e) ≡ Arrived.Long
-  long-if-user i =
-      let fit = subst (λ (c : ℕ). misfit c (paramAt e) (numberAt e) (lengthAt e) ≡ false) i (clear (checks t e room) h .1 .1 .1 .0) in
-      long-message (messageOf e) (omega (arith, user-message (paramAt e) (numberAt e) (lengthAt e) fit, message-length EV e (taken t e room h .sound)))
+-- AN INVARIANT of a link and its history, with the n1 that the table was made with
+module _ (I : ℕ → Link → List Mark → Type 0) where
+  -- it holds of what an event leaves
+  abbrev pub Keeps : ℕ → List Mark → List ℕ → machine.Outcome → Type 0
+  Keeps n1 h e machine.Illegal = Unit {0}
+  Keeps n1 h e (machine.Legal next said) = I n1 next (with-signals (map (signalOctets (linkAt e) (messageOf e)) said) (eventMark e ∷ h))
 
-  by-coded : (x : Coded) → unknown x ≡ false → Fits (paramAt e) (numberAt e) (lengthAt e) (arrived (messageOf e)) c1 (codeAt e) x →
-      Told (sortAt (viewOf (said x) c1 .0)) (codeAt e) (paramAt e) (arrived (messageOf e)) c1 (viewOf (said x) c1 .1)
-  by-coded Coded.Unknown k f = absurd (true≢false k)
-  by-coded (Coded.Of x) k f = f long-if-user
+  -- a fresh link has it, and every event that is taken keeps it
+  pub record Invariant : Type 0 where
+    pub begins : (n1 : ℕ) → I n1 (freshLink n1) []
+    pub goes-on : (n1 : ℕ) (l : Link) (h : List Mark) → I n1 l h → (e : List ℕ) → Passed e → Keeps n1 h e (machine.stepOf l (eventOf e))
 
-  sorted : Told (sortAt (viewOf (eventOf e) c1 .0)) (codeAt e) (paramAt e) (arrived (messageOf e)) c1 (viewOf (eventOf e) c1 .1)
-  sorted = by-coded (codedIn e) (clear (checks t e room) h .1 .1 .0) (fits (paramAt e) (numberAt e) (lengthAt e) (arrived (messageOf e)) c1 (codeAt e))
+  -- a record is that of a link of which it holds
+  pub record Kept (n1 : ℕ) (r : List ℕ) (h : List Mark) : Type 0 where
+    pub link : Link
+    pub octets : r ≡ octetsOf link
+    pub inv : I n1 link h
 
--- EVERY LINK OF THE TABLE: its record is that of a link of which the invariant holds
-pub record Kept (n1 : ℕ) (r : List ℕ) (h : List Mark) : Type 0 where
-  pub link : Link
-  pub octets : r ≡ octetsOf link
-  pub inv : Inv n1 link h
-
-abbrev Good : World → Type 0
-Good w = (k : ℕ) → k < records (w .table) → Kept (w .n1) (recordAt (w .table) k) (history w k)
+  abbrev Good : World → Type 0
+  Good w = (k : ℕ) → k < records (w .table) → Kept (w .n1) (recordAt (w .table) k) (history w k)
 
 pub made-length : (buffer : List ℕ) (n1 : ℕ) → freshCall buffer n1 .answer ≡ 0 → length (freshCall buffer n1 .table) ≡ 16 * records buffer
 unfolding freshCall
@@ -98,11 +80,7 @@ made-length buffer n1 = by (first (freshChecks buffer n1)) where
   by (refused x) h = absurd (omega (arith, number-above x))
   by passed h = length-copies (records buffer) (octetsOf (freshLink n1)) (octets-length (freshLink n1))
 
-made-ok : (buffer : List ℕ) (n1 : ℕ) → freshCall buffer n1 .answer ≡ 0 → Good (made buffer n1)
-unfolding marks
-made-ok buffer n1 h k i = record { link = freshLink n1; octets = all-fresh buffer n1 k h (omega (arith, made-length buffer n1 h)); inv = fresh-ok n1 }
-
-module _ (w : World) (g : Good w) (e o : List ℕ) where
+module _ (I : ℕ → Link → List Mark → Type 0) (v : Invariant I) (w : World) (g : Good I w) (e o : List ℕ) where
   same-records : records (stepCall (w .table) e o .table) ≡ records (w .table)
   same-records = ap (λ (n : ℕ). n / 16) (same-lengths (w .table) e o .0)
 
@@ -112,7 +90,7 @@ module _ (w : World) (g : Good w) (e o : List ℕ) where
       (λ next signals p m h. p)
 
   this-link : stepCall (w .table) e o .answer .refusal ≡ 0 →
-      Kept (w .n1) (recordAt (stepCall (w .table) e o .table) (linkAt e)) (with-signals (signalsIn (stepCall (w .table) e o)) (eventMark e ∷ history w (linkAt e)))
+      Kept I (w .n1) (recordAt (stepCall (w .table) e o .table) (linkAt e)) (with-signals (signalsIn (stepCall (w .table) e o)) (eventMark e ∷ history w (linkAt e)))
   this-link a =
       let x = accepted-written (w .table) e o a in
       let p = no-check a in
@@ -123,41 +101,46 @@ module _ (w : World) (g : Good w) (e o : List ℕ) where
         octets = x .packed;
         inv =
             rw (emitted-ones (w .table) e (stepCall (w .table) e o) x)
-            (subst (Keeps (w .n1) (history w (linkAt e)) (linkAt e) (messageOf e) (codeAt e) (paramAt e)) (ap (λ (l : Link). machine.stepOf l (eventOf e)) (sym found) ∙ x .gives)
-            (step-ok (w .n1) (i .link) (history w (linkAt e)) (i .inv) (linkAt e) (messageOf e) (codeAt e) (paramAt e) (eventOf e) (sorted (w .table) e (length o) p (i .link .c1))));
+            (subst (Keeps I (w .n1) (history w (linkAt e)) e) (ap (λ (l : Link). machine.stepOf l (eventOf e)) (sym found) ∙ x .gives)
+            (v .goes-on (w .n1) (i .link) (history w (linkAt e)) (i .inv) e (passed-by (w .table) e (length o) p)));
       }
 
   abbrev log : Bool → List Seen
   log b = cond b (record { event = e; signals = signalsIn (stepCall (w .table) e o) } ∷ w .seen) (w .seen)
 
   accepted-ok : stepCall (w .table) e o .answer .refusal ≡ 0 → (k : ℕ) → k < records (w .table) → (b : Bool) → eqb (linkAt e) k ≡ b →
-      Kept (w .n1) (recordAt (stepCall (w .table) e o .table) k) (cond b (with-signals (signalsIn (stepCall (w .table) e o)) (eventMark e ∷ marks (w .seen) k)) (marks (w .seen) k))
+      Kept I (w .n1) (recordAt (stepCall (w .table) e o .table) k) (cond b (with-signals (signalsIn (stepCall (w .table) e o)) (eventMark e ∷ marks (w .seen) k)) (marks (w .seen) k))
   accepted-ok a k i true q =
-      subst (λ (j : ℕ). Kept (w .n1) (recordAt (stepCall (w .table) e o .table) j) (with-signals (signalsIn (stepCall (w .table) e o)) (eventMark e ∷ marks (w .seen) j)))
+      subst (λ (j : ℕ). Kept I (w .n1) (recordAt (stepCall (w .table) e o .table) j) (with-signals (signalsIn (stepCall (w .table) e o)) (eventMark e ∷ marks (w .seen) j)))
       (eqb-true (linkAt e) k q) (this-link a)
   accepted-ok a k i false q = rw (others-untouched (w .table) e o k (λ r. eqb-false (linkAt e) k q (sym r))) (g k i)
 
-  step-good : (b : Bool) → eqb (stepCall (w .table) e o .answer .refusal) 0 ≡ b → Good (record { table = stepCall (w .table) e o .table; n1 = w .n1; seen = log b })
+  step-good : (b : Bool) → eqb (stepCall (w .table) e o .answer .refusal) 0 ≡ b → Good I (record { table = stepCall (w .table) e o .table; n1 = w .n1; seen = log b })
   unfolding marks
   step-good true a k i = accepted-ok (eqb-true (stepCall (w .table) e o .answer .refusal) 0 a) k (omega (arith, same-records)) (eqb (linkAt e) k) refl
   step-good false a k i =
       let r : 1 ≤ stepCall (w .table) e o .answer .refusal = omega (arith, eqb-false (stepCall (w .table) e o .answer .refusal) 0 a) in
       rw (ap (λ (z : Outcome). z .table) (refusals-untouched (w .table) e o r)) (g k (omega (arith, same-records)))
 
-fresh-good : (w : World) → Good w → (buffer : List ℕ) (n1 : ℕ) (b : Bool) → eqb (freshCall buffer n1 .answer) 0 ≡ b → Good (cond b (made buffer n1) w)
-fresh-good w g buffer n1 true a = made-ok buffer n1 (eqb-true (freshCall buffer n1 .answer) 0 a)
-fresh-good w g buffer n1 false a = g
+module _ (I : ℕ → Link → List Mark → Type 0) (v : Invariant I) where
+  made-ok : (buffer : List ℕ) (n1 : ℕ) → freshCall buffer n1 .answer ≡ 0 → Good I (made buffer n1)
+  unfolding marks
+  made-ok buffer n1 h k i = record { link = freshLink n1; octets = all-fresh buffer n1 k h (omega (arith, made-length buffer n1 h)); inv = v .begins n1 }
 
-next-good : (w : World) → Good w → (c : Call) → Good (next w c)
-unfolding next
-next-good w g (fresh buffer n1) = fresh-good w g buffer n1 (eqb (freshCall buffer n1 .answer) 0) refl
-next-good w g (step e o) = step-good w g e o (eqb (stepCall (w .table) e o .answer .refusal) 0) refl
+  fresh-good : (w : World) → Good I w → (buffer : List ℕ) (n1 : ℕ) (b : Bool) → eqb (freshCall buffer n1 .answer) 0 ≡ b → Good I (cond b (made buffer n1) w)
+  fresh-good w g buffer n1 true a = made-ok buffer n1 (eqb-true (freshCall buffer n1 .answer) 0 a)
+  fresh-good w g buffer n1 false a = g
 
-run-good : (calls : List Call) (w : World) → Good w → Good (run w calls)
-unfolding run
-run-good [] w g = g
-run-good (c ∷ calls) w g = run-good calls (next w c) (next-good w g c)
+  next-good : (w : World) → Good I w → (c : Call) → Good I (next w c)
+  unfolding next
+  next-good w g (fresh buffer n1) = fresh-good w g buffer n1 (eqb (freshCall buffer n1 .answer) 0) refl
+  next-good w g (step e o) = step-good I v w g e o (eqb (stepCall (w .table) e o .answer .refusal) 0) refl
 
--- what holds of a record and a history by the invariant holds after each call
-pub after-each-call : (P : World → ℕ → Type 0) → ((w : World) (k : ℕ) → Kept (w .n1) (recordAt (w .table) k) (history w k) → P w k) → AfterEachCall P
-after-each-call P f buffer n1 h calls k i = f (run (made buffer n1) calls) k (run-good calls (made buffer n1) (made-ok buffer n1 h) k i)
+  run-good : (calls : List Call) (w : World) → Good I w → Good I (run w calls)
+  unfolding run
+  run-good [] w g = g
+  run-good (c ∷ calls) w g = run-good calls (next w c) (next-good w g c)
+
+  -- what holds of a record and a history by the invariant holds after each call
+  pub after-each-call : (P : World → ℕ → Type 0) → ((w : World) (k : ℕ) → Kept I (w .n1) (recordAt (w .table) k) (history w k) → P w k) → AfterEachCall P
+  after-each-call P f buffer n1 h calls k i = f (run (made buffer n1) calls) k (run-good calls (made buffer n1) (made-ok buffer n1 h) k i)

@@ -14,7 +14,7 @@ use Rattle.history.specs.Tests.{stands, sent, due, served}
 use Rattle.history.specs.Demand.{Demand3}
 use Rattle.history.proofs.Tested.{stands-tested, served-tested}
 use Rattle.history.proofs.Table.{down, on, serving, now}
-use Rattle.history.proofs.Step.{NowIs}
+use Rattle.history.proofs.Step.{NowIs, Inv, keeps-inv}
 use Rattle.history.proofs.Calls.{Kept, after-each-call}
 
 module _ (n1 c1 : ℕ) (h : List Mark) where
@@ -37,7 +37,7 @@ module _ (n1 c1 : ℕ) (h : List Mark) where
   by-state State.S2104 flag i = told false i
   by-state State.S3105 flag i = told true i
 
-alike : (n1 : ℕ) (r : List ℕ) (h : List Mark) → Kept n1 r h → stands h ≡ served n1 h
+alike : (n1 : ℕ) (r : List ℕ) (h : List Mark) → Kept Inv n1 r h → stands h ≡ served n1 h
 alike n1 r h k = k .inv .stand-is ∙ sym (by-state n1 (k .link .c1) h (k .link .state) (k .link .ins) (k .inv .now-is))
 
 in-words : (n1 : ℕ) (h : List Mark) → stands h ≡ served n1 h → Stands h ↔ Served n1 h
@@ -49,6 +49,6 @@ in-words n1 h e =
 pub demand3 : Demand3
 demand3 =
     record {
-      exactly = after-each-call (λ w link. Stands (history w link) ↔ Served (w .n1) (history w link)) (λ w link k. in-words (w .n1) (history w link) (alike (w .n1) _ (history w link) k));
+      exactly = after-each-call Inv keeps-inv (λ w link. Stands (history w link) ↔ Served (w .n1) (history w link)) (λ w link k. in-words (w .n1) (history w link) (alike (w .n1) _ (history w link) k));
       apart = others-untouched;
     }

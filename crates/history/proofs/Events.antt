@@ -1,19 +1,25 @@
 -- What the octets of an accepted event say of the row that it meets: the mark is of the row's sort. Assumes nothing.
-use mathlib.Core.Path.{_≡_, refl, sym, subst}
-use mathlib.Core.Bool.{Bool, true, false, cond, false≢true}
+use mathlib.Core.Path.{_≡_, refl, sym, subst, _∙_}
+use mathlib.Core.Bool.{Bool, true, false, cond, false≢true, true≢false, or-true}
 use mathlib.Core.List.{List, [], _∷_}
 use Prim.Native.Nat.{ℕ, _≤_}
 use native.Mathlib.Omega.{arith}
-use lib.Dec.{eqb}
-use borrow.Author.Tests.{eqb-true, eqb-false}
+use lib.Dec.{eqb, leb}
+use lib.ListN.{length}
+use borrow.Author.Tests.{eqb-true, eqb-false, leb-false}
 use Rattle.unit.specs.declared.Arrived.{Arrived}
+use Rattle.unit.specs.Unit.{arrived}
 use Rattle.table6.specs.EventCodes.{MESSAGE-FOR-TRANSMISSION, DATA-indication, T3-expired}
 use Rattle.link.specs.declared.Num.{Num}
 use Rattle.link.specs.declared.Event.{Event}
 use Rattle.link.specs.Stored.{dataRowOf, viewOf}
-use Rattle.event.specs.EventRecord.{carried, events, Coded, among, codedAt, Each}
+use Rattle.event.specs.Frame.{EV, codeAt, paramAt, numberAt, lengthAt, messageOf}
+use Rattle.event.specs.EventRecord.{carried, events, Coded, among, codedAt, codedIn, said, eventOf, misfit, Each}
+use Rattle.event.proofs.Frame.{message-length}
+use Rattle.sscf.specs.Step.{unknown}
 use Rattle.history.proofs.Walk.{Kind, Of}
 use Rattle.history.proofs.Table.{Sort, plain, sortAt}
+use Rattle.history.proofs.Calls.{Passed}
 
 infixr 5 _&_
 abbrev _&_ : {A B : Type 0} → A → B → A × B
@@ -48,10 +54,10 @@ module _ (p : ℕ) (n : Num) (len : ℕ) (a : Arrived) (c1 : ℕ) where
 
   by-arrived : (b : Arrived) → Told (sortAt (dataRowOf b)) DATA-indication p b c1 0
   by-arrived Arrived.INS = plainly (refl, refl)
-  by-arrived Arrived.NM = plainly refl
-  by-arrived (Arrived.Other status) = plainly refl
-  by-arrived Arrived.Short = plainly refl
-  by-arrived Arrived.Long = plainly refl
+  by-arrived Arrived.NM = plainly (refl, refl)
+  by-arrived (Arrived.Other status) = plainly (refl, refl)
+  by-arrived Arrived.Short = plainly (refl, refl)
+  by-arrived Arrived.Long = plainly (refl, refl)
 
   by-count : (b : Bool) → eqb c1 0 ≡ b → Told (sortAt (cond b 34 33)) T3-expired p a c1 0
   by-count true e =
@@ -102,3 +108,35 @@ module _ (p : ℕ) (n : Num) (len : ℕ) (a : Arrived) (c1 : ℕ) where
   pub fits : (c : ℕ) → Fits c (codedAt c p n len a)
   unfolding codedAt
   fits c = by-code c (events p n len a) each-code
+
+-- OCTETS. A long message is no unit.
+pub long-message : (m : List ℕ) → 5 ≤ length m → arrived m ≡ Arrived.Long
+unfolding arrived
+long-message [] h = absurd (omega arith)
+long-message (a ∷ []) h = absurd (omega arith)
+long-message (a ∷ b ∷ []) h = absurd (omega arith)
+long-message (a ∷ b ∷ c ∷ []) h = absurd (omega arith)
+long-message (a ∷ b ∷ c ∷ d ∷ []) h = absurd (omega arith)
+long-message (a ∷ b ∷ c ∷ d ∷ e ∷ m) h = refl
+
+user-message : (p : ℕ) (n : Num) (len : ℕ) → misfit MESSAGE-FOR-TRANSMISSION p n len ≡ false → 5 ≤ len
+unfolding misfit
+user-message p n len e = by (leb len 4) refl where
+  by : (b : Bool) → leb len 4 ≡ b → 5 ≤ len
+  by true q = let z : misfit MESSAGE-FOR-TRANSMISSION p n len ≡ true = simp (q, or-true) in absurd (true≢false (sym z ∙ e))
+  by false q = leb-false len 4 q
+
+-- an event that is taken is of the sort of the row that it meets
+module _ (e : List ℕ) (p : Passed e) (c1 : ℕ) where
+  long-if-user : codeAt e ≡ MESSAGE-FOR-TRANSMISSION → arrived (messageOf e) ≡ Arrived.Long
+  long-if-user i =
+      let fit = subst (λ (c : ℕ). misfit c (paramAt e) (numberAt e) (lengthAt e) ≡ false) i (p .fits) in
+      long-message (messageOf e) (omega (arith, user-message (paramAt e) (numberAt e) (lengthAt e) fit, message-length EV e (p .sound)))
+
+  by-coded : (x : Coded) → unknown x ≡ false → Fits (paramAt e) (numberAt e) (lengthAt e) (arrived (messageOf e)) c1 (codeAt e) x →
+      Told (sortAt (viewOf (said x) c1 .0)) (codeAt e) (paramAt e) (arrived (messageOf e)) c1 (viewOf (said x) c1 .1)
+  by-coded Coded.Unknown k f = absurd (true≢false k)
+  by-coded (Coded.Of x) k f = f long-if-user
+
+  pub sorted : Told (sortAt (viewOf (eventOf e) c1 .0)) (codeAt e) (paramAt e) (arrived (messageOf e)) c1 (viewOf (eventOf e) c1 .1)
+  sorted = by-coded (codedIn e) (p .known) (fits (paramAt e) (numberAt e) (lengthAt e) (arrived (messageOf e)) c1 (codeAt e))

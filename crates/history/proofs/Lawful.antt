@@ -21,7 +21,7 @@ unfoldable pub lawful : ℕ → List Mark → Bool
 lawful n1 [] = true
 lawful n1 (m ∷ h) = (not (inService m) || served n1 h) && ((not (provingSent m) || spared h) && lawful n1 h)
 
-implied : (a b : Bool) → (not a || b) ≡ true → a ≡ true → b ≡ true
+pub implied : (a b : Bool) → (not a || b) ≡ true → a ≡ true → b ≡ true
 implied true b h e = h
 implied false b h e = absurd (false≢true e)
 

@@ -2,11 +2,13 @@ pub mod Tested
 pub mod Lawful
 pub mod Walk
 pub mod Table
+pub mod Calls
 pub mod Events
 pub mod Step
-pub mod Calls
 pub mod Demand
 pub mod Register
 pub mod Witness
 pub mod Timers
 pub mod Pics
+pub mod Latest
+pub mod Bsnt

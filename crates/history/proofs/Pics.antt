@@ -32,7 +32,7 @@ use Rattle.link.specs.declared.Link.{Link}
 use Rattle.link.specs.declared.Event.{Event}
 use Rattle.link.specs.declared.Event.the-variants as event
 use Rattle.link.specs.declared.Signal.{Signal}
-use Rattle.link.specs.Effect.{with-state, with-ins, with-lpo, with-ups, with-c1, with-bsnt, with-timer, taken}
+use Rattle.link.specs.Effect.{with-state, with-ins, with-lpo, with-ups, with-c1, with-bsnt, with-timer, taken, not-retrievable}
 use Rattle.link.specs.Signal.{none, num, signal, bare, signalOf}
 use Rattle.link.specs.Step.{Meeting, meeting, facts, Outcome, Illegal, Legal, outcome, stepOf}
 use Rattle.link.specs.Twelve.{unit, report}
@@ -63,21 +63,22 @@ use Rattle.history.specs.History.{Mark, history}
 use Rattle.history.specs.Tests.{alive}
 use Rattle.history.proofs.Tested.{alive-there}
 use Rattle.history.proofs.Table.{now}
-use Rattle.history.proofs.Step.{NowIs}
-use Rattle.history.proofs.Calls.{emitted-ones, long-message, made-length, Kept, after-each-call}
+use Rattle.history.proofs.Step.{NowIs, Inv, keeps-inv}
+use Rattle.history.proofs.Calls.{emitted-ones, made-length, Kept, after-each-call}
+use Rattle.history.proofs.Events.{long-message}
 use Rattle.history.proofs.Timers.{timed-each}
 
 -- ONE TURN
 
 -- a link of a good table, with a record that is well-formed
-record At (w : World) (k : ℕ) (l : Link) : Type 0 where
+pub record At (w : World) (k : ℕ) (l : Link) : Type 0 where
   good : badTable (w .table) ≡ false
   inside : k < records (w .table)
   formed : wellFormed (recordAt (w .table) k) ≡ true
   holds : linkIn w k ≡ l
 
 -- octets that are an event for a link, with a code
-record Hands (e : List ℕ) (k c : ℕ) (x : Event) : Type 0 where
+pub record Hands (e : List ℕ) (k c : ℕ) (x : Event) : Type 0 where
   sound : framed e ≡ true
   known : unknown (codedIn e) ≡ false
   fits : misfit (codeAt e) (paramAt e) (numberAt e) (lengthAt e) ≡ false
@@ -122,14 +123,14 @@ module _ (w : World) (k c : ℕ) (l : Link) (e : List ℕ) (x : Event) (a : At w
       }
 
 -- a turn, and those that follow it
-led : {w : World} {k c : ℕ} {l : Link} {e : List ℕ} {x : Event} {after : Link} {said : List Signal} → At w k l → Hands e k c x → idle l c ≡ false →
+pub led : {w : World} {k c : ℕ} {l : Link} {e : List ℕ} {x : Event} {after : Link} {said : List Signal} → At w k l → Hands e k c x → idle l c ≡ false →
     stepOf l x ≡ Legal after said → (turns : List Turn) (s : State) → ((w′ : World) → At w′ k after → Leads w′ k turns s) → Leads w k ((e ⇒ said) ∷ turns) s
 led {w} {k} {c} {l} {e} {x} {after} {said} a f r p turns s rest o h =
     let b = subst (λ (j : ℕ). At w j l) (sym (f .link)) a in
     let w′ = next w (step e o) in
     (happens w k c l e x b f r after said p o h, rest w′ (subst (λ (j : ℕ). At w′ j after) (f .link) (stays w k c l e x b f r after said p o h)))
 
-ended : {k : ℕ} {l : Link} (w : World) → At w k l → Leads w k [] (l .state)
+pub ended : {k : ℕ} {l : Link} (w : World) → At w k l → Leads w k [] (l .state)
 ended w a = ap (λ (l : Link). l .state) (a .holds)
 
 -- AFTER EVERY SEQUENCE OF CALLS every link is such
@@ -169,15 +170,15 @@ at-each buffer n1 h calls k i =
     let s = run-sound calls (made buffer n1) (made-sound buffer n1 h) in
     record { good = s .0; inside = i; formed = s .1 k i; holds = refl }
 
-kept-each : AfterEachCall (λ w k. Kept (w .n1) (recordAt (w .table) k) (history w k))
-kept-each = after-each-call (λ w k. Kept (w .n1) (recordAt (w .table) k) (history w k)) (λ w k v. v)
+kept-each : AfterEachCall (λ w k. Kept Inv (w .n1) (recordAt (w .table) k) (history w k))
+kept-each = after-each-call Inv keeps-inv (λ w k. Kept Inv (w .n1) (recordAt (w .table) k) (history w k)) (λ w k v. v)
 
 n1-each : AfterEachCall (λ w k. linkIn w k .n1 ≡ w .n1)
 n1-each =
-    after-each-call (λ w k. linkIn w k .n1 ≡ w .n1) (λ w k v. ap (λ (r : List ℕ). linkOf r .n1) (v .octets) ∙ ap (λ (l : Link). l .n1) (unpacked (v .link)) ∙ v .inv .n1-is)
+    after-each-call Inv keeps-inv (λ w k. linkIn w k .n1 ≡ w .n1) (λ w k v. ap (λ (r : List ℕ). linkOf r .n1) (v .octets) ∙ ap (λ (l : Link). l .n1) (unpacked (v .link)) ∙ v .inv .n1-is)
 
 -- what holds of a link in a state
-brings : (s : State) (turns : World → ℕ → List Turn) (s′ : State) → ((w : World) (k : ℕ) → At w k (with-state s (linkIn w k)) → Leads w k (turns w k) s′) → Brings s turns s′
+pub brings : (s : State) (turns : World → ℕ → List Turn) (s′ : State) → ((w : World) (k : ℕ) → At w k (with-state s (linkIn w k)) → Leads w k (turns w k) s′) → Brings s turns s′
 brings s turns s′ f buffer n1 h calls k i p =
     let w = run (made buffer n1) calls in
     let a = at-each buffer n1 h calls k i in
@@ -203,7 +204,7 @@ running-T2 s r buffer n1 h calls k i p =
 
 -- EVENTS
 
-hands : (k c p : ℕ) (n : Num) (m : List ℕ) {x : Event} → length m ≤ 4096 → codedAt c p n (length m) (arrived m) ≡ Coded.Of x → misfit c p n (length m) ≡ false →
+pub hands : (k c p : ℕ) (n : Num) (m : List ℕ) {x : Event} → length m ≤ 4096 → codedAt c p n (length m) (arrived m) ≡ Coded.Of x → misfit c p n (length m) ≡ false →
     Hands (written EV k c p n m) k c x
 unfolding written
 hands k c p n m h u v =
@@ -376,11 +377,6 @@ module _ (l : Link) where
   abbrev due : Ups → ℕ
   due peer = table7 (l .mps) (l .ups) peer (l .n1)
 
-  confirmed : (peer : Ups) (k : ℕ) → stepOf (with-state 2/2/2 l) (event.EstablishConfirm (asking peer)) ≡ Legal (proving false (due peer)) (confirms peer k .signals)
-  unfolding stepOf AA-ESTABLISH-confirm-with-EM-NM asked
-  confirmed Ups.Normal k = refl
-  confirmed Ups.Emergency k = refl
-
   one-unit : (ins : Bool) (c : ℕ) → stepOf (proving ins (suc c)) event.T3 ≡ Legal (proving ins c) (unit Status.NM ∷ bare SET-T3 ∷ [])
   unfolding stepOf T3-expires-and-C1>0
   one-unit ins c = rw (ne-eqb (suc c) 0 (λ e. omega arith), less-one c) where
@@ -406,9 +402,18 @@ module _ (l : Link) where
   unfolding stepOf AA-DATA-indication-with-INS
   peer-ready n k = refl
 
+-- a connection comes up: BSNT is forgotten
+abbrev forgetting : Link → Link
+forgetting l = with-bsnt not-retrievable l
+
+confirmed : (l : Link) (peer : Ups) (k : ℕ) → stepOf (with-state 2/2/2 l) (event.EstablishConfirm (asking peer)) ≡ Legal (proving (forgetting l) false (due l peer)) (confirms peer k .signals)
+unfolding stepOf AA-ESTABLISH-confirm-with-EM-NM asked
+confirmed l Ups.Normal k = refl
+confirmed l Ups.Emergency k = refl
+
 answered : (l : Link) (peer : Ups) →
     stepOf (with-state 2/1/2 l) (event.EstablishIndication (asking peer))
-    ≡ Legal (proving (with-timer T1 false l) false (due l peer)) (response l ∷ bare START-PROVING ∷ bare RESET-T1 ∷ bare SET-T3 ∷ [])
+    ≡ Legal (proving (forgetting (with-timer T1 false l)) false (due l peer)) (response l ∷ bare START-PROVING ∷ bare RESET-T1 ∷ bare SET-T3 ∷ [])
 unfolding stepOf AA-ESTABLISH-indication-with-EM-NM asked
 answered l Ups.Normal = refl
 answered l Ups.Emergency = refl
@@ -443,7 +448,7 @@ sooner-leads k l a b n =
 -- into service after turns that bring the connection up, with C1 decided
 module _ (s : State) (peer : Ups) (turns : World → ℕ → List Turn) (then : Link → Link)
     (up : (w : World) (k : ℕ) → At w k (with-state s (with-lpo false (linkIn w k))) →
-    (more : List Turn) → ((w′ : World) → At w′ k (proving (with-lpo false (then (linkIn w k))) false (due (linkIn w k) peer)) → Leads w′ k more 3/10/5) →
+    (more : List Turn) → ((w′ : World) → At w′ k (proving (with-lpo false (forgetting (then (linkIn w k)))) false (due (linkIn w k) peer)) → Leads w′ k more 3/10/5) →
     Leads w k (turns w k ++ more) 3/10/5) where
   into-service : Serves s peer turns
   into-service buffer n1 h calls k i p q n a b e =
@@ -452,10 +457,11 @@ module _ (s : State) (peer : Ups) (turns : World → ℕ → List Turn) (then : 
       let x = at-each buffer n1 h calls k i in
       let here : At w k (with-state s (with-lpo false l)) = record { good = x .good; inside = x .inside; formed = x .formed; holds = λ i. with-state (p i) (with-lpo (q i) l) } in
       let d : due l peer ≡ a + b = ap (table7 (l .mps) (l .ups) peer) (n1-each buffer n1 h calls k i) ∙ sym e in
-      let so : (w′ : World) → At w′ k (proving (with-lpo false (then l)) false (due l peer)) → At w′ k (proving (with-lpo false (then l)) false (a + b)) =
-      λ w′. subst (λ (c : ℕ). At w′ k (proving (with-lpo false (then l)) false c)) d in (
-        up w k here (later (a + b) n k) (λ w′ x. later-leads k (then l) (a + b) n w′ (so w′ x)),
-        up w k here (sooner a b n k) (λ w′ x. sooner-leads k (then l) a b n w′ (so w′ x)),
+      let m = forgetting (then l) in
+      let so : (w′ : World) → At w′ k (proving (with-lpo false m) false (due l peer)) → At w′ k (proving (with-lpo false m) false (a + b)) =
+      λ w′. subst (λ (c : ℕ). At w′ k (proving (with-lpo false m) false c)) d in (
+        up w k here (later (a + b) n k) (λ w′ x. later-leads k m (a + b) n w′ (so w′ x)),
+        up w k here (sooner a b n k) (λ w′ x. sooner-leads k m a b n w′ (so w′ x)),
       )
 
 -- THE ITEMS

@@ -20,6 +20,7 @@ use Rattle.history.specs.Register.{StateOctet, NotEarly, ForcedProving, 
 use Rattle.history.proofs.Tested.{stands-tested, served-tested, connection, begun-there, sent-there, due-there}
 use Rattle.history.proofs.Lawful.{isEmergency, spared, indication, unit}
 use Rattle.history.proofs.Table.{serving}
+use Rattle.history.proofs.Step.{Inv, keeps-inv}
 use Rattle.history.proofs.Calls.{Kept, after-each-call}
 
 -- THE STATE OCTET
@@ -33,7 +34,7 @@ eight State.S2103 = (λ e. absurd (omega arith), λ e. absurd (false≢true e))
 eight State.S2104 = (λ e. absurd (omega arith), λ e. absurd (false≢true e))
 eight State.S3105 = (λ e. refl, λ e. refl)
 
-octet : (n1 : ℕ) (r : List ℕ) (h : List Mark) → Kept n1 r h → (at r 2 ≡ 8) ↔ Stands h
+octet : (n1 : ℕ) (r : List ℕ) (h : List Mark) → Kept Inv n1 r h → (at r 2 ≡ 8) ↔ Stands h
 unfolding octetsOf
 octet n1 r h k =
     let code : at r 2 ≡ stateCode (k .link .state) = ap (λ (x : List ℕ). at x 2) (k .octets) in
@@ -42,12 +43,12 @@ octet n1 r h k =
     (λ x. s .1 (k .inv .stand-is ∙ e .0 (sym code ∙ x)), λ (x : Stands h). code ∙ e .1 (sym (k .inv .stand-is) ∙ s .0 x))
 
 pub state-octet : StateOctet
-state-octet = after-each-call (λ w link. (at (recordAt (w .table) link) 2 ≡ 8) ↔ Stands (history w link)) (λ w link k. octet (w .n1) _ (history w link) k)
+state-octet = after-each-call Inv keeps-inv (λ w link. (at (recordAt (w .table) link) 2 ≡ 8) ↔ Stands (history w link)) (λ w link k. octet (w .n1) _ (history w link) k)
 
 -- EVERY MARK
 pub not-early : NotEarly
 not-early =
-    after-each-call (λ w link. (i : Somewhere inService (history w link)) → Served (w .n1) (i .earlier))
+    after-each-call Inv keeps-inv (λ w link. (i : Somewhere inService (history w link)) → Served (w .n1) (i .earlier))
     (λ w link k i. served-tested (w .n1) (i .earlier) .1 (indication (w .n1) (history w link) (k .inv .lawful-is) i))
 
 enough : (n1 : ℕ) (h : List Mark) → served n1 h ≡ true → (c : Connection h) → mps (begun c) ≡ Mps.Normal → n1 ≤ count provingSent (since c)
@@ -58,7 +59,7 @@ enough n1 h t c e =
 
 pub forced-proving : ForcedProving
 forced-proving =
-    after-each-call (λ w link. (i : Somewhere inService (history w link)) (c : Connection (i .earlier)) → mps (begun c) ≡ Mps.Normal → w .n1 ≤ count provingSent (since c))
+    after-each-call Inv keeps-inv (λ w link. (i : Somewhere inService (history w link)) (c : Connection (i .earlier)) → mps (begun c) ≡ Mps.Normal → w .n1 ≤ count provingSent (since c))
     (λ w link k i c. enough (w .n1) (i .earlier) (indication (w .n1) (history w link) (k .inv .lawful-is) i) c)
 
 not-under : (h : List Mark) → spared h ≡ true → (c : Connection h) × (mps (begun c) ≡ Mps.Emergency → ⊥)
@@ -68,5 +69,5 @@ not-under h t =
 
 pub forced-none : ForcedEmergency
 forced-none =
-    after-each-call (λ w link. (u : Somewhere provingSent (history w link)) → (c : Connection (u .earlier)) × (mps (begun c) ≡ Mps.Emergency → ⊥))
+    after-each-call Inv keeps-inv (λ w link. (u : Somewhere provingSent (history w link)) → (c : Connection (u .earlier)) × (mps (begun c) ≡ Mps.Emergency → ⊥))
     (λ w link k u. not-under (u .earlier) (unit (w .n1) (history w link) (k .inv .lawful-is) u))

@@ -1,5 +1,5 @@
--- What a link's record says of its history, and that a step keeps it so. Assumes nothing.
-use mathlib.Core.Path.{_≡_, refl, sym, ap, subst, _∙_}
+-- What a link's record says of its history, and that it does so after each call. Assumes nothing.
+use mathlib.Core.Path.{_≡_, refl, sym, ap, _∙_}
 use mathlib.Core.Bool.{Bool, true, false, cond, not, _&&_, _||_, Bool·beq, false≢true}
 use mathlib.Core.List.{List, [], _∷_, _++_, map}
 use mathlib.Core.Option.{Option, none, some}
@@ -13,33 +13,32 @@ use Rattle.unit.specs.Unit.{arrived}
 use Rattle.unit.specs.Proving.{mpsCode, upsCode, asked, table7}
 use Rattle.table6.specs.declared.State.{State}
 use Rattle.table6.specs.Cell as table6
-use Rattle.table6.specs.Cell.{cell, Choice, illegal, does, chosen}
+use Rattle.table6.specs.Cell.{Choice, illegal, does}
 use Rattle.table6.specs.Order.{signals}
-use Rattle.table6.specs.Rows.{printed, heading}
-use Rattle.table6.specs.Stored.{met}
+use Rattle.table6.specs.Rows.{heading}
 use Rattle.table6.specs.Summary.{Op, keep, put, over, Count, same, decided, less, Summary, still, summary, sum}
 use Rattle.table6.proofs.Every.{left, right, Holds}
 use Rattle.link.specs.declared.Num.{Num}
 use Rattle.link.specs.declared.Link.{Link}
-use Rattle.link.specs.declared.Event.{Event}
 use Rattle.link.specs.declared.View.{View}
 use Rattle.link.specs.declared.Signal.{Signal}
 use Rattle.link.specs.Effect.{with-state}
 use Rattle.link.specs.Fresh.{freshLink}
 use Rattle.link.specs.Signal.{signalOf}
-use Rattle.link.specs.Step.{Outcome, Illegal, Legal, stepOf}
 use Rattle.link.specs.Stored.{viewOf, meetingOf, factsOf, counted, summedUp}
-use Rattle.link.proofs.Performed.{outcomeOf, as-met}
+use Rattle.link.proofs.Performed.{outcomeOf, choiceOf, by-choice}
 use Rattle.record.specs.LinkRecord.{mpsAt, upsAt}
-use Rattle.event.specs.Frame.{written}
+use Rattle.event.specs.Frame.{written, linkAt, codeAt, paramAt, numberAt, messageOf}
+use Rattle.event.specs.EventRecord.{eventOf}
 use Rattle.signal.specs.SignalRecord.{bodyOf, signalOctets}
-use Rattle.history.specs.History.{Mark, accepted, emitted, with-signals, mps, ups}
+use Rattle.history.specs.History.{Mark, accepted, emitted, eventMark, with-signals, mps, ups}
 use Rattle.history.specs.Tests.{stands, alive, sent, due, toldIns, heardIns}
 use Rattle.history.proofs.Lawful.{lawful}
 use Rattle.history.proofs.Walk.{Base, held, new, Conn, dead, live, Abs, abs, Found, sentAt, dueAt, ConnIs, Is, Is?, Before, ruleEvent, ruleSignal, signal-ok, event-ok}
 use Rattle.history.proofs.Table.{Now, down, on, serving, now, Sort, begin, level, sign, sign-of, told}
-use Rattle.history.proofs.Table.{takes, decides, least, counts, still-level, sameOp, fits, ends, leads, sortAt, choice-ok}
-use Rattle.history.proofs.Events.{Told}
+use Rattle.history.proofs.Table.{takes, decides, least, counts, still-level, sameOp, fits, ends, leads, sortAt, table-ok, choice-ok}
+use Rattle.history.proofs.Calls.{Keeps, Invariant}
+use Rattle.history.proofs.Events.{Told, sorted}
 
 -- THE INVARIANT
 abbrev pub NowIs : ℕ → Now → ℕ → List Mark → Type 0
@@ -54,7 +53,7 @@ pub record Inv (n1 : ℕ) (l : Link) (h : List Mark) : Type 0 where
   pub now-is : NowIs n1 (now (l .state) (l .ins)) (l .c1) h
   pub lawful-is : lawful n1 h ≡ true
 
-pub fresh-ok : (n1 : ℕ) → Inv n1 (freshLink n1) []
+fresh-ok : (n1 : ℕ) → Inv n1 (freshLink n1) []
 unfolding stands alive lawful
 fresh-ok n1 = record { n1-is = refl; ups-is = refl; mps-is = refl; stand-is = refl; now-is = refl; lawful-is = refl }
 
@@ -65,11 +64,11 @@ beq-eq true false e = absurd (false≢true e)
 beq-eq false true e = absurd (false≢true e)
 beq-eq false false e = refl
 
-same-op : {A : Type 0} (code : A → ℕ) (back : ℕ → A) → ((x : A) → back (code x) ≡ x) → (o q : Op A) → sameOp code o q ≡ true → (x : A) → over o x ≡ over q x
-same-op code back inv keep keep e x = refl
-same-op code back inv keep (put z) e x = absurd (false≢true e)
-same-op code back inv (put y) keep e x = absurd (false≢true e)
-same-op code back inv (put y) (put z) e x = sym (inv y) ∙ ap back (eqb-true (code y) (code z) e) ∙ inv z
+pub same-op : {A : Type 0} (code : A → ℕ) (back : ℕ → A) → ((x : A) → back (code x) ≡ x) → (o q : Op A) → sameOp code o q ≡ true → o ≡ q
+same-op code back inv keep keep e = refl
+same-op code back inv keep (put z) e = absurd (false≢true e)
+same-op code back inv (put y) keep e = absurd (false≢true e)
+same-op code back inv (put y) (put z) e = ap put (sym (inv y) ∙ ap back (eqb-true (code y) (code z) e) ∙ inv z)
 
 ups-back : (x : Ups) → upsAt (upsCode x) ≡ x
 ups-back Ups.Normal = refl
@@ -97,8 +96,8 @@ abbrev found : ℕ → Link → List Mark → Sort → ℕ → Found
 found n1 l h s p =
     record { n1 = n1; ups = l .ups; mps = l .mps; sent = sentOn (here l) h; due = dueOn (here l) n1 (l .c1) h; level = level s (here l); above = s .above; field = p }
 
--- ONE EVENT of a sort s, with code c, parameter p and message m, where the cell sees the parameter `param`; on link k, with the record l and the history h
-module _ (n1 : ℕ) (l : Link) (h : List Mark) (v : Inv n1 l h) (k : ℕ) (m : List ℕ) (s : Sort) (c p param : ℕ) (t : Told s c p (arrived m) (l .c1) param) where
+-- ONE EVENT of a sort s, with code c, parameter p, number and message m, where the cell sees the parameter `param`; on link k, with the record l and the history h
+module _ (n1 : ℕ) (l : Link) (h : List Mark) (v : Inv n1 l h) (k : ℕ) (m : List ℕ) (s : Sort) (c p : ℕ) (number : Num) (param : ℕ) (t : Told s c p (arrived m) (l .c1) param) where
   left-over : (x : Now) → NowIs n1 x (l .c1) h → sentOn x h + l .c1 ≡ dueOn x n1 (l .c1) h
   left-over down i = omega arith
   left-over (on a g z) i = i .3
@@ -123,8 +122,8 @@ module _ (n1 : ℕ) (l : Link) (h : List Mark) (v : Inv n1 l h) (k : ℕ) (m : L
   before = (v .stand-is, conn-before (here l) (v .now-is), v .ups-is, v .mps-is, v .lawful-is)
 
   -- the event's mark, and then those of its signals
-  first-mark : Is? (found n1 l h s p) (ruleEvent (s .mark) (abs (serving (l .state)) (begin (here l)) keep keep)) (accepted c p (arrived m) ∷ h)
-  first-mark = event-ok (found n1 l h s p) h (s .mark) c (arrived m) (abs (serving (l .state)) (begin (here l)) keep keep) before (t .mark)
+  first-mark : Is? (found n1 l h s p) (ruleEvent (s .mark) (abs (serving (l .state)) (begin (here l)) keep keep)) (accepted c p number (arrived m) ∷ h)
+  first-mark = event-ok (found n1 l h s p) h number (s .mark) c (arrived m) (abs (serving (l .state)) (begin (here l)) keep keep) before (t .mark)
 
   module _ (q : ℕ) (n : Num) (b : Num) where
     abbrev spoken : table6.Told → List ℕ
@@ -203,41 +202,39 @@ module _ (n1 : ℕ) (l : Link) (h : List Mark) (v : Inv n1 l h) (k : ℕ) (m : L
       let e₂ = right (sameOp upsCode u (r .ups)) _ e₁ in
       record {
         n1-is = v .n1-is;
-        ups-is = i .2 ∙ same-op upsCode upsAt ups-back u (r .ups) (left (sameOp upsCode u (r .ups)) _ e₁) (l .ups);
-        mps-is = i .3 ∙ same-op mpsCode mpsAt mps-back w (r .mps) (left (sameOp mpsCode w (r .mps)) _ e₂) (l .mps);
+        ups-is = i .2 ∙ ap (λ (o : Op Ups). over o (l .ups)) (same-op upsCode upsAt ups-back u (r .ups) (left (sameOp upsCode u (r .ups)) _ e₁));
+        mps-is = i .3 ∙ ap (λ (o : Op Mps). over o (l .mps)) (same-op mpsCode mpsAt mps-back w (r .mps) (left (sameOp mpsCode w (r .mps)) _ e₂));
         stand-is = i .0 ∙ beq-eq st (serving next) (left (Bool·beq st (serving next)) _ e);
         now-is = conn-after (r .c1) y (now next (over (r .ins) (l .ins))) g (right (sameOp mpsCode w (r .mps)) _ e₂) (i .1);
         lawful-is = i .5;
       }
 
--- What an outcome leaves, where an event with code c, parameter p and message m came to link k.
-abbrev pub Keeps : ℕ → List Mark → ℕ → List ℕ → ℕ → ℕ → Outcome → Type 0
-Keeps n1 h k m c p Illegal = Unit {0}
-Keeps n1 h k m c p (Legal next said) = Inv n1 next (with-signals (map (signalOctets k m) said) (accepted c p (arrived m) ∷ h))
-
-twice : (k : ℕ) (m : List ℕ) (f : table6.Told → Signal) (acts : List table6.Told) → map (signalOctets k m) (map f acts) ≡ map (λ a. signalOctets k m (f a)) acts
+pub twice : (k : ℕ) (m : List ℕ) (f : table6.Told → Signal) (acts : List table6.Told) → map (signalOctets k m) (map f acts) ≡ map (λ a. signalOctets k m (f a)) acts
 twice k m f [] = refl
 twice k m f (a ∷ acts) = ap (λ (x : List (List ℕ)). signalOctets k m (f a) ∷ x) (twice k m f acts)
 
 -- THE STEP, by the row that its event meets
-module _ (n1 : ℕ) (l : Link) (h : List Mark) (v : Inv n1 l h) (k : ℕ) (m : List ℕ) (c p : ℕ) (x : View) (t : Told (sortAt (x .0)) c p (arrived m) (l .c1) (x .1)) where
-  chosen-ok : (y : Choice) → Holds (leads (sortAt (x .0)) (l .state) (l .ins) (heading (x .0) .arrives)) [] y →
-      Keeps n1 h k m c p (outcomeOf l (meetingOf x) (sum (heading (x .0) .arrives) y))
-  chosen-ok illegal e = tt
-  chosen-ok (does acts next) e =
+module _ (n1 : ℕ) (l : Link) (h : List Mark) (v : Inv n1 l h) (e : List ℕ) (x : View) (t : Told (sortAt (x .0)) (codeAt e) (paramAt e) (arrived (messageOf e)) (l .c1) (x .1)) where
+  chosen-ok : (y : Choice) → Holds (leads (sortAt (x .0)) (l .state) (l .ins) (heading (x .0) .arrives)) [] y → Keeps Inv n1 h e (outcomeOf l (meetingOf x) (sum (heading (x .0) .arrives) y))
+  chosen-ok illegal i = tt
+  chosen-ok (does acts next) i =
+      let s = sortAt (x .0) in
+      let k = linkAt e in
+      let m = messageOf e in
+      let c = codeAt e in
+      let p = paramAt e in
+      let n = numberAt e in
+      let first = ruleEvent (s .mark) (abs (serving (l .state)) (begin (here l)) keep keep) in
       rw (twice k m (signalOf (x .1) (x .2) (l .mps) (l .ups) (l .bsnt .num)) (signals acts))
-      (ended n1 l h v k m (sortAt (x .0)) c p (x .1) t
-      (told (level (sortAt (x .0)) (here l)) (sortAt (x .0)) (signals acts) (ruleEvent (sortAt (x .0) .mark) (abs (serving (l .state)) (begin (here l)) keep keep)))
-      (summary (heading (x .0) .arrives ++ acts) still) (x .2) next _ e
-      (signals-ok n1 l h v k m (sortAt (x .0)) c p (x .1) t (x .1) (x .2) (l .bsnt .num) (signals acts)
-      (ruleEvent (sortAt (x .0) .mark) (abs (serving (l .state)) (begin (here l)) keep keep)) (accepted c p (arrived m) ∷ h)
-      (first-mark n1 l h v k m (sortAt (x .0)) c p (x .1) t)))
+      (ended n1 l h v k m s c p n (x .1) t (told (level s (here l)) s (signals acts) first) (summary (heading (x .0) .arrives ++ acts) still) (x .2) next _ i
+      (signals-ok n1 l h v k m s c p n (x .1) t (x .1) (x .2) (l .bsnt .num) (signals acts) first (eventMark e ∷ h) (first-mark n1 l h v k m s c p n (x .1) t)))
 
-  met-ok : Keeps n1 h k m c p (outcomeOf l (meetingOf x) (met (x .0) (l .state) (factsOf l x)))
-  unfolding met
-  met-ok = chosen-ok (chosen (factsOf l x) (cell (printed (factsOf l x) (heading (x .0) .row)) (l .state))) (choice-ok (l .state) (factsOf l x) (x .0))
-
-pub step-ok : (n1 : ℕ) (l : Link) (h : List Mark) → Inv n1 l h → (k : ℕ) (m : List ℕ) (c p : ℕ) (e : Event) →
-    Told (sortAt (viewOf e (l .c1) .0)) c p (arrived m) (l .c1) (viewOf e (l .c1) .1) → Keeps n1 h k m c p (stepOf l e)
-step-ok n1 l h v k m c p e t =
-    subst (Keeps n1 h k m c p) (as-met l e) (met-ok n1 l h v k m c p (viewOf e (l .c1)) t)
+pub keeps-inv : Invariant Inv
+keeps-inv =
+    record {
+      begins = fresh-ok;
+      goes-on = λ n1 l h v e p.
+          let x = viewOf (eventOf e) (l .c1) in
+          by-choice (Keeps Inv n1 h e) l (eventOf e)
+          (chosen-ok n1 l h v e x (sorted e p (l .c1)) (choiceOf l x) (choice-ok leads (l .state) (factsOf l x) table-ok (x .0)));
+    }

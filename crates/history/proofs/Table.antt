@@ -19,13 +19,14 @@ use Rattle.table6.specs.Cell.{Told, Act, tell, alter, Cell, Illegal, to, _⨟_,
 use Rattle.table6.specs.Order.{signals}
 use Rattle.table6.specs.Rows.{Printed, one, two, printed, Heading, rows, nowhere, heading}
 use Rattle.table6.specs.Summary.{Op, keep, put, over, Count, same, decided, less, Summary, still, summary}
-use Rattle.table6.proofs.Every.{left, right, Holds, one-more, no-row}
+use Rattle.table6.specs.Every.{in-states}
+use Rattle.table6.proofs.Every.{left, right, of-states, Holds, one-more, no-row}
 use Rattle.table6.proofs.Unfolded.{every-row}
 use Rattle.link.specs.declared.Num.{Num}
 use Rattle.link.specs.declared.Signal.{Signal}
 use Rattle.link.specs.Signal as link
 use Rattle.link.specs.Signal.{signalOf}
-use Rattle.history.proofs.Walk.{Base, held, new, Conn, dead, live, Abs, abs, Kind, quiet, stops, confirms, releases, hears, wishes, forces, ruleSignal, ruleEvent}
+use Rattle.history.proofs.Walk.{Base, held, new, Conn, dead, live, Abs, abs, Kind, quiet, stops, confirms, releases, hears, receives, wishes, forces, ruleSignal, ruleEvent}
 
 -- WHAT A STATE SAYS of the history, with the INS flag: no connection; or one on which the INS unit was sent or not, the peer's was received or not, and C1 is
 -- known to be 0 or not.
@@ -81,9 +82,9 @@ sorts =
     ∷ plain releases
     ∷ plain quiet  -- RELEASE-confirm
     ∷ plain hears
-    ∷ plain quiet  -- DATA, NM
-    ∷ plain quiet  -- DATA, other
-    ∷ plain quiet  -- DATA, long
+    ∷ plain receives  -- DATA, NM
+    ∷ plain receives  -- DATA, other
+    ∷ plain receives  -- DATA, long
     ∷ plain quiet  -- RESYNC
     ∷ plain quiet  -- RECOVER
     ∷ plain quiet  -- UNITDATA
@@ -187,37 +188,30 @@ in-cell t flag acts (a ⨟ c) = in-cell t flag (acts ++ tell a ∷ []) c
 in-cell t flag acts (a ⨾ c) = in-cell t flag (acts ++ alter a ∷ []) c
 in-cell t flag acts (IF q THEN c ELSE d) = cond (never q flag) true (in-cell t flag acts c) && in-cell t flag acts d
 
-abbrev in-row : Sort → State → Bool → List Act → Row → Bool
-in-row s st flag arrives r = in-cell (leads s st flag arrives) flag [] (cell r st)
+-- What such a test asks of a sort of event, of the state and the INS flag that it finds, of what it does by itself, and of an alternative.
+abbrev pub Test : Type 0
+Test = Sort → State → Bool → List Act → List Act → State → Bool
 
-abbrev in-printed : Sort → State → Bool → List Act → Printed → Bool
-in-printed s st flag arrives (one r) = in-row s st flag arrives r
-in-printed s st flag arrives (two q r w) = in-row s st flag arrives r && in-row s st flag arrives w
+abbrev in-row : Test → Sort → State → Bool → List Act → Row → Bool
+in-row t s st flag arrives r = in-cell (t s st flag arrives) flag [] (cell r st)
 
-abbrev in-rows : State → Bool → List Sort → List Heading → Bool
-in-rows st flag [] [] = true
-in-rows st flag [] (h ∷ hs) = false
-in-rows st flag (s ∷ ss) [] = false
-in-rows st flag (s ∷ ss) (h ∷ hs) = in-printed s st flag (h .arrives) (h .row) && in-rows st flag ss hs
+abbrev in-printed : Test → Sort → State → Bool → List Act → Printed → Bool
+in-printed t s st flag arrives (one r) = in-row t s st flag arrives r
+in-printed t s st flag arrives (two q r w) = in-row t s st flag arrives r && in-row t s st flag arrives w
 
-table-ok : (st : State) (flag : Bool) → in-rows st flag sorts rows ≡ true
+abbrev in-rows : Test → State → Bool → List Sort → List Heading → Bool
+in-rows t st flag [] [] = true
+in-rows t st flag [] (h ∷ hs) = false
+in-rows t st flag (s ∷ ss) [] = false
+in-rows t st flag (s ∷ ss) (h ∷ hs) = in-printed t s st flag (h .arrives) (h .row) && in-rows t st flag ss hs
+
+-- It is passed in every cell.
+abbrev pub Passes : Test → Type 0
+Passes t = in-states (λ st. in-rows t st false sorts rows && in-rows t st true sorts rows) ≡ true
+
+pub table-ok : Passes leads
 unfolding every-row
-table-ok State.S111 false = refl
-table-ok State.S111 true = refl
-table-ok State.S141 false = refl
-table-ok State.S141 true = refl
-table-ok State.S212 false = refl
-table-ok State.S212 true = refl
-table-ok State.S222 false = refl
-table-ok State.S222 true = refl
-table-ok State.S242 false = refl
-table-ok State.S242 true = refl
-table-ok State.S2103 false = refl
-table-ok State.S2103 true = refl
-table-ok State.S2104 false = refl
-table-ok State.S2104 true = refl
-table-ok State.S3105 false = refl
-table-ok State.S3105 true = refl
+table-ok = refl
 
 -- FROM THE TEST TO A CHOICE
 
@@ -267,24 +261,28 @@ of-cell t acts (IF q THEN c ELSE d) f h =
 abbrev pub sortAt : ℕ → Sort
 sortAt row = getD sorts row (plain quiet)
 
-module _ (st : State) (f : Facts) where
-  of-printed : (s : Sort) (arrives : List Act) (p : Printed) → in-printed s st (f .ins) arrives p ≡ true → Holds (leads s st (f .ins) arrives) [] (chosen f (cell (printed f p) st))
-  of-printed s arrives (one r) h = of-cell (leads s st (f .ins) arrives) [] (cell r st) f h
+module _ (t : Test) (st : State) (f : Facts) where
+  of-printed : (s : Sort) (arrives : List Act) (p : Printed) → in-printed t s st (f .ins) arrives p ≡ true → Holds (t s st (f .ins) arrives) [] (chosen f (cell (printed f p) st))
+  of-printed s arrives (one r) h = of-cell (t s st (f .ins) arrives) [] (cell r st) f h
   of-printed s arrives (two q r w) h = by (holds q f) where
-    by : (b : Bool) → Holds (leads s st (f .ins) arrives) [] (chosen f (cell (cond b r w) st))
-    by true = of-cell (leads s st (f .ins) arrives) [] (cell r st) f (left (in-row s st (f .ins) arrives r) (in-row s st (f .ins) arrives w) h)
-    by false = of-cell (leads s st (f .ins) arrives) [] (cell w st) f (right (in-row s st (f .ins) arrives r) (in-row s st (f .ins) arrives w) h)
+    by : (b : Bool) → Holds (t s st (f .ins) arrives) [] (chosen f (cell (cond b r w) st))
+    by true = of-cell (t s st (f .ins) arrives) [] (cell r st) f (left (in-row t s st (f .ins) arrives r) (in-row t s st (f .ins) arrives w) h)
+    by false = of-cell (t s st (f .ins) arrives) [] (cell w st) f (right (in-row t s st (f .ins) arrives r) (in-row t s st (f .ins) arrives w) h)
 
   abbrev At : Sort → Heading → Type 0
-  At s h = Holds (leads s st (f .ins) (h .arrives)) [] (chosen f (cell (printed f (h .row)) st))
+  At s h = Holds (t s st (f .ins) (h .arrives)) [] (chosen f (cell (printed f (h .row)) st))
 
-  of-rows : (ss : List Sort) (hs : List Heading) → in-rows st (f .ins) ss hs ≡ true → (row : ℕ) → At (getD ss row (plain quiet)) (getD hs row nowhere)
+  of-rows : (ss : List Sort) (hs : List Heading) → in-rows t st (f .ins) ss hs ≡ true → (row : ℕ) → At (getD ss row (plain quiet)) (getD hs row nowhere)
   of-rows [] [] h row = rw (no-row f st) tt
   of-rows [] (x ∷ hs) h row = absurd (false≢true h)
   of-rows (s ∷ ss) [] h row = absurd (false≢true h)
-  of-rows (s ∷ ss) (x ∷ hs) h zero = of-printed s (x .arrives) (x .row) (left (in-printed s st (f .ins) (x .arrives) (x .row)) (in-rows st (f .ins) ss hs) h)
-  of-rows (s ∷ ss) (x ∷ hs) h (suc row) = of-rows ss hs (right (in-printed s st (f .ins) (x .arrives) (x .row)) (in-rows st (f .ins) ss hs) h) row
+  of-rows (s ∷ ss) (x ∷ hs) h zero = of-printed s (x .arrives) (x .row) (left (in-printed t s st (f .ins) (x .arrives) (x .row)) (in-rows t st (f .ins) ss hs) h)
+  of-rows (s ∷ ss) (x ∷ hs) h (suc row) = of-rows ss hs (right (in-printed t s st (f .ins) (x .arrives) (x .row)) (in-rows t st (f .ins) ss hs) h) row
 
-  -- what the facts choose in any row leads from the state to the next
-  pub choice-ok : (row : ℕ) → At (sortAt row) (heading row)
-  choice-ok row = of-rows sorts rows (table-ok st (f .ins)) row
+  by-flag : (b : Bool) → in-rows t st false sorts rows && in-rows t st true sorts rows ≡ true → in-rows t st b sorts rows ≡ true
+  by-flag false h = left (in-rows t st false sorts rows) (in-rows t st true sorts rows) h
+  by-flag true h = right (in-rows t st false sorts rows) (in-rows t st true sorts rows) h
+
+  -- what the facts choose in any row passes
+  pub choice-ok : Passes t → (row : ℕ) → At (sortAt row) (heading row)
+  choice-ok h row = of-rows sorts rows (by-flag (f .ins) (of-states (λ st. in-rows t st false sorts rows && in-rows t st true sorts rows) h st)) row

@@ -9,7 +9,7 @@ use Rattle.table6.proofs.Every.{left, right}
 use Rattle.history.specs.History.{Mark, comesUp, edge, provingSent, insSent, insReceived, inService, turn, none, count, decided, Somewhere, Stands, Connection, since, begun, Served}
 use Rattle.history.specs.Tests.{after, from, begins, insAfter, stands, alive, sent, due, toldIns, heardIns, served, StandsTested, ServedTested}
 
-both : (a b : Bool) → a ≡ true → b ≡ true → a && b ≡ true
+pub both : (a b : Bool) → a ≡ true → b ≡ true → a && b ≡ true
 both a b p q = and-eq-true-iff a b .1 (p, q)
 
 module _ (p : Mark → Bool) where
@@ -37,14 +37,14 @@ module _ (p : Mark → Bool) where
     after-there [] u = rw t
     after-there (x ∷ a) u = rw (not-true (p x) (left (not (p x)) (none p a) u)) (ap (λ (l : List Mark). x ∷ l) (after-there a (right (not (p x)) (none p a) u)))
 
-    not-none : (a : List Mark) → not (none p (a ++ m ∷ l)) ≡ true
+    pub not-none : (a : List Mark) → not (none p (a ++ m ∷ l)) ≡ true
     not-none [] = rw t
     not-none (x ∷ a) = by (not-none a) (p x) where
       by : not (none p (a ++ m ∷ l)) ≡ true → (b : Bool) → not (not b && none p (a ++ m ∷ l)) ≡ true
       by k true = refl
       by k false = k
 
-  abbrev one-more : (x : Mark) {l : List Mark} → Somewhere p l → Somewhere p (x ∷ l)
+  abbrev pub one-more : (x : Mark) {l : List Mark} → Somewhere p l → Somewhere p (x ∷ l)
   one-more x s = record { later = x ∷ s .later; mark = s .mark; earlier = s .earlier; whole = ap (λ (l : List Mark). x ∷ l) (s .whole); passes = s .passes }
 
   somewhere : (l : List Mark) → not (none p l) ≡ true → Somewhere p l

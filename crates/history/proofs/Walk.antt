@@ -17,6 +17,7 @@ use Rattle.unit.proofs.Proving.{none-if-emergency}
 use Rattle.table6.specs.EventCodes.{EMERGENCY, EMERGENCY-CEASES, STOP, ESTABLISH-confirm, RELEASE-indication, DATA-indication, FORCE-PROVING, FORCE-EMERGENCY, CLEAR-FORCE-MODES}
 use Rattle.table6.specs.SignalCodes.{IN-SERVICE, OUT-OF-SERVICE, ESTABLISH-response, RELEASE-request, DATA-request}
 use Rattle.table6.specs.Summary.{Op, keep, put, over}
+use Rattle.link.specs.declared.Num.{Num}
 use Rattle.link.specs.declared.Carries.{Carries}
 use Rattle.signal.specs.SignalRecord.{bodyOf}
 use Rattle.history.specs.History.{Mark, accepted, emitted, isNM, isINS, edge, mps, ups, field}
@@ -129,7 +130,7 @@ ruleSignal level above long c b A =
 
 -- Events, as marks.
 pub data Kind : Type 0 where
-  quiet stops confirms releases hears : Kind
+  quiet stops confirms releases hears receives : Kind
   wishes : Ups → Kind
   forces : Mps → Kind
 
@@ -139,32 +140,34 @@ ruleEvent stops A = ruleOut A
 ruleEvent confirms A = ruleUp A
 ruleEvent releases A = ruleReleased A
 ruleEvent hears A = ruleHeard A
+ruleEvent receives A = some A
 ruleEvent (wishes x) (abs s c u m) = some (abs s c (put x) m)
 ruleEvent (forces x) (abs s c u m) = some (abs s c u (put x))
 
--- an event's code, and what arrived with it, are of a kind
-abbrev any : List Bool → Bool
+-- an event's code, and what arrived with it, are of a kind: data is heard where it is an INS unit, else received
+abbrev pub any : List Bool → Bool
 any [] = false
 any (b ∷ bs) = b || any bs
 
-abbrev Each : List Bool → Type 0
+abbrev pub Each : List Bool → Type 0
 Each [] = Unit {0}
 Each (b ∷ bs) = (b ≡ false) × Each bs
 
-each : (bs : List Bool) → any bs ≡ false → Each bs
+pub each : (bs : List Bool) → any bs ≡ false → Each bs
 each [] e = tt
 each (true ∷ bs) e = absurd (true≢false e)
 each (false ∷ bs) e = (refl, each bs e)
 
-abbrev counting : ℕ → Arrived → List Bool
-counting c a = eqb c EMERGENCY ∷ eqb c EMERGENCY-CEASES ∷ eqb c STOP ∷ eqb c ESTABLISH-confirm ∷ eqb c RELEASE-indication ∷ eqb c FORCE-PROVING ∷ eqb c FORCE-EMERGENCY ∷ eqb c CLEAR-FORCE-MODES ∷ (eqb c DATA-indication && isINS a) ∷ []
+abbrev pub counting : ℕ → List Bool
+counting c = eqb c EMERGENCY ∷ eqb c EMERGENCY-CEASES ∷ eqb c STOP ∷ eqb c ESTABLISH-confirm ∷ eqb c RELEASE-indication ∷ eqb c FORCE-PROVING ∷ eqb c FORCE-EMERGENCY ∷ eqb c CLEAR-FORCE-MODES ∷ eqb c DATA-indication ∷ []
 
 abbrev pub Of : Kind → ℕ → Arrived → Type 0
-Of quiet c a = any (counting c a) ≡ false
+Of quiet c a = any (counting c) ≡ false
 Of stops c a = c ≡ STOP
 Of confirms c a = c ≡ ESTABLISH-confirm
 Of releases c a = c ≡ RELEASE-indication
 Of hears c a = (c ≡ DATA-indication) × (a ≡ Arrived.INS)
+Of receives c a = (c ≡ DATA-indication) × (isINS a ≡ false)
 Of (wishes Ups.Emergency) c a = c ≡ EMERGENCY
 Of (wishes Ups.Normal) c a = c ≡ EMERGENCY-CEASES
 Of (forces Mps.Normal) c a = c ≡ FORCE-PROVING
@@ -304,11 +307,11 @@ module _ (f : Found) (h : List Mark) (level : f .level ≡ true → f .sent ≡ 
 abbrev pub Before : Found → Abs → List Mark → Type 0
 Before f (abs s c u m) h = (stands h ≡ s) × ConnIs f c h × (ups h ≡ over u (f .ups)) × (mps h ≡ over m (f .mps)) × (lawful (f .n1) h ≡ true)
 
-module _ (f : Found) (h : List Mark) where
+module _ (f : Found) (h : List Mark) (n : Num) where
   abbrev Next : Option Abs → ℕ → Arrived → Type 0
-  Next o c a = Is? f o (accepted c (f .field) a ∷ h)
+  Next o c a = Is? f o (accepted c (f .field) n a ∷ h)
 
-  accepted-same : (c : ℕ) (a : Arrived) → eqb c ESTABLISH-confirm ≡ false → eqb c RELEASE-indication ≡ false → eqb c DATA-indication && isINS a ≡ false → Same (f .n1) h (accepted c (f .field) a ∷ h)
+  accepted-same : (c : ℕ) (a : Arrived) → eqb c ESTABLISH-confirm ≡ false → eqb c RELEASE-indication ≡ false → eqb c DATA-indication && isINS a ≡ false → Same (f .n1) h (accepted c (f .field) n a ∷ h)
   unfolding alive toldIns heardIns sent due
   accepted-same c a p q r = record { alive-is = simp (p, q); told-is = simp (p, q); heard-is = simp (p, q, r); sent-is = simp (p, q); due-is = simp (p, q) }
 
@@ -316,8 +319,8 @@ module _ (f : Found) (h : List Mark) where
   quiet-ok : (c : ℕ) (a : Arrived) (A : Abs) → Before f A h → Of quiet c a → Next (some A) c a
   unfolding stands lawful
   quiet-ok c a (abs s y u m) k e =
-      let (e₂, (e₃, (e₄, (e₁₇, (e₁₈, (e₃₆, (e₃₇, (e₃₈, (i, _))))))))) = each (counting c a) e in
-      (simp e₄ (k .0), conn-same f y h _ (accepted-same c a e₁₇ e₁₈ i) (k .1), simp (e₂, e₃, e₄) (k .2), simp (e₃₆, e₃₇, e₃₈) (k .3), refl, k .4)
+      let (e₂, (e₃, (e₄, (e₁₇, (e₁₈, (e₃₆, (e₃₇, (e₃₈, (e₂₀, _))))))))) = each (counting c) e in
+      (simp e₄ (k .0), conn-same f y h _ (accepted-same c a e₁₇ e₁₈ (rw e₂₀)) (k .1), simp (e₂, e₃, e₄) (k .2), simp (e₃₆, e₃₇, e₃₈) (k .3), refl, k .4)
 
   pub event-ok : (e : Kind) (c : ℕ) (a : Arrived) (A : Abs) → Before f A h → Of e c a → Next (ruleEvent e A) c a
   unfolding stands alive toldIns heardIns sent due lawful
@@ -328,7 +331,8 @@ module _ (f : Found) (h : List Mark) where
   event-ok confirms c a (abs s y (put x) m) k e = tt
   event-ok releases c a (abs s y u m) k e = rw e (k .0, refl, k .2, k .3, refl, k .4)
   event-ok hears c a (abs s dead u m) k e = rw (e .0) (k .0, k .1, k .2, k .3, refl, k .4)
-  event-ok hears c a (abs s (live x g b n) u m) k e = rw (e .0, e .1) (k .0, (k .1 .0, k .1 .1, refl, k .1 .3, k .1 .4), k .2, k .3, refl, k .4)
+  event-ok hears c a (abs s (live x g b i) u m) k e = rw (e .0, e .1) (k .0, (k .1 .0, k .1 .1, refl, k .1 .3, k .1 .4), k .2, k .3, refl, k .4)
+  event-ok receives c a (abs s y u m) k e = rw (e .0) (k .0, conn-same f y h _ (accepted-same DATA-indication a refl refl (e .1)) (k .1), k .2, k .3, refl, k .4)
   event-ok (wishes Ups.Emergency) c a (abs s y u m) k e = rw e (k .0, conn-same f y h _ (accepted-same EMERGENCY a refl refl refl) (k .1), refl, k .3, refl, k .4)
   event-ok (wishes Ups.Normal) c a (abs s y u m) k e = rw e (k .0, conn-same f y h _ (accepted-same EMERGENCY-CEASES a refl refl refl) (k .1), refl, k .3, refl, k .4)
   event-ok (forces Mps.Normal) c a (abs s y u m) k e = rw e (k .0, conn-same f y h _ (accepted-same FORCE-PROVING a refl refl refl) (k .1), k .2, refl, refl, k .4)

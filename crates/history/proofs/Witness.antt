@@ -13,8 +13,9 @@ use Rattle.sscf.specs.Step.{stepCall}
 use Rattle.sscf.specs.Fresh.{freshCall}
 use Rattle.history.specs.Calls.{next, run}
 use Rattle.history.specs.History.{marks}
-use Rattle.history.specs.Tests.{stands, alive, sent, due, toldIns, heardIns}
+use Rattle.history.specs.Tests.{stands, alive, sent, due, toldIns, heardIns, bsnt}
 use Rattle.history.specs.Witness.{Witness}
+use Rattle.history.specs.BsntWitness.{BsntWitness}
 
 pub witness : Witness
 unfolding unitOf kind arrived decoded asked table7 table8 every-row stepOf over putAt octetsOf linkOf wellFormed written framedAs
@@ -37,4 +38,20 @@ witness =
       refused = refl;
       anew = refl;
       of-another = refl;
+    }
+
+pub bsnt-witness : BsntWitness
+unfolding unitOf kind arrived decoded asked table7 table8 every-row stepOf over putAt octetsOf linkOf wellFormed written framedAs
+    codedAt misfit joined stepCall freshCall next run marks bsnt
+bsnt-witness =
+    record {
+      never = record { accepted = refl; answers = refl; told = refl };
+      over-own-release = record { accepted = refl; answers = refl; told = refl };
+      over-far-release = record { accepted = refl; answers = refl; told = refl };
+      while-asked = record { accepted = refl; answers = refl; told = refl };
+      peer-refused = record { accepted = refl; answers = refl; told = refl };
+      by-confirm = record { accepted = refl; answers = refl; told = refl };
+      by-response = record { accepted = refl; answers = refl; told = refl };
+      by-released-confirm = record { accepted = refl; answers = refl; told = refl };
+      anew = record { accepted = refl; answers = refl; told = refl };
     }

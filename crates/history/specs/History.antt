@@ -11,16 +11,17 @@ use Rattle.unit.specs.Unit.{arrived}
 use Rattle.unit.specs.Proving.{asked, table7}
 use Rattle.table6.specs.EventCodes.{EMERGENCY, EMERGENCY-CEASES, STOP, ESTABLISH-confirm, RELEASE-indication, DATA-indication, FORCE-PROVING, FORCE-EMERGENCY, CLEAR-FORCE-MODES}
 use Rattle.table6.specs.SignalCodes.{IN-SERVICE, OUT-OF-SERVICE, ESTABLISH-response, RELEASE-request, DATA-request}
-use Rattle.event.specs.Frame.{linkAt, codeAt, paramAt, messageOf}
+use Rattle.link.specs.declared.Num.{Num}
+use Rattle.event.specs.Frame.{linkAt, codeAt, paramAt, numberAt, messageOf}
 use Rattle.history.specs.Calls.{Seen, World}
 
--- An event that was accepted or a signal that was emitted, as its octets say: code, parameter, and what its message is by clause 10.
+-- An event that was accepted or a signal that was emitted, as its octets say: code, an event's parameter and number, and what its message is by clause 10.
 pub data Mark : Type 0 where
-  accepted : (code param : ℕ) → Arrived → Mark
+  accepted : (code param : ℕ) → Num → Arrived → Mark
   emitted : (code : ℕ) → Arrived → Mark
 
 abbrev pub eventMark : List ℕ → Mark
-eventMark e = accepted (codeAt e) (paramAt e) (arrived (messageOf e))
+eventMark e = accepted (codeAt e) (paramAt e) (numberAt e) (arrived (messageOf e))
 
 abbrev pub signalMark : List ℕ → Mark
 signalMark r = emitted (codeAt r) (arrived (messageOf r))
@@ -41,11 +42,11 @@ history w link = marks (w .seen) link
 -- MARKS, by document 01's codes
 
 abbrev pub event : ℕ → Mark → Bool
-event c (accepted code param holds) = eqb code c
+event c (accepted code param n holds) = eqb code c
 event c (emitted code holds) = false
 
 abbrev pub signal : ℕ → Mark → Bool
-signal c (accepted code param holds) = false
+signal c (accepted code param n holds) = false
 signal c (emitted code holds) = eqb code c
 
 abbrev pub isNM : Arrived → Bool
@@ -63,7 +64,7 @@ isINS Arrived.Short = false
 isINS Arrived.Long = false
 
 abbrev pub holding : (Arrived → Bool) → Mark → Bool
-holding p (accepted code param holds) = p holds
+holding p (accepted code param n holds) = p holds
 holding p (emitted code holds) = p holds
 
 -- "Came up": ESTABLISH-confirm is accepted or ESTABLISH-response is sent.
@@ -143,7 +144,7 @@ ups (m ∷ h) = cond (event EMERGENCY m) Ups.Emergency (cond (event EMERGENCY-CE
 -- The peer's field: the parameter of the latest event.
 abbrev pub field : List Mark → ℕ
 field [] = 0
-field (accepted code param holds ∷ h) = param
+field (accepted code param n holds ∷ h) = param
 field (emitted code holds ∷ h) = field h
 
 -- "The number of proving units that Table 7 decided for that connection", where it comes up with the latest mark.

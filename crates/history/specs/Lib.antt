@@ -2,6 +2,8 @@ pub mod Calls
 pub mod History
 pub mod Demand
 pub mod Register
+pub mod Pics
+pub mod Bsnt
 pub mod Tests
 pub mod Witness
-pub mod Pics
+pub mod BsntWitness

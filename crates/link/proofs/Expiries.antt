@@ -8,7 +8,7 @@ use native.Mathlib.Numerals.{add-one}
 use borrow.Author.Tests.{ne-eqb}
 use Rattle.unit.specs.declared.Status.{Status}
 use Rattle.unit.specs.Unit.{code}
-use Rattle.unit.specs.Proving.{asked, table7, table8}
+use Rattle.unit.specs.Proving.{table8}
 use Rattle.table6.specs.declared.State.{State}
 use Rattle.table6.specs.Cell.{T1, T3}
 use Rattle.table6.specs.Table6.{AA-ESTABLISH-indication-with-EM-NM, AA-ESTABLISH-confirm-with-EM-NM, T3-expires-and-C1>0, T3-expires-and-C1=0}
@@ -18,7 +18,7 @@ use Rattle.link.specs.declared.Carries.{Carries}
 use Rattle.link.specs.declared.Link.{Link}
 use Rattle.link.specs.declared.Signal.{Signal}
 use Rattle.link.specs.declared.Event.the-variants as event
-use Rattle.link.specs.Effect.{with-state, with-ins, with-lpo, with-c1, with-timer}
+use Rattle.link.specs.Effect.{with-state, with-ins, with-lpo, with-c1, with-timer, up}
 use Rattle.link.specs.Signal.{none, signal, bare}
 use Rattle.link.specs.Step.{named, Legal, stepOf}
 use Rattle.link.specs.Twelve.{unit}
@@ -90,7 +90,7 @@ thousand-and-one l p h o =
 -- A CONNECTION COMES UP
 
 abbrev decided : ℕ → Link → Link
-decided field l = with-c1 (table7 (l .mps) (l .ups) (asked field) (l .n1)) (with-ins false (proving l))
+decided field l = up l field (proving l)
 
 confirm : (l : Link) (field : ℕ) → named field ≡ true →
     stepOf (with-state 2/2/2 l) (event.EstablishConfirm field) ≡ Legal (decided field l) (bare START-PROVING ∷ bare SET-T3 ∷ [])

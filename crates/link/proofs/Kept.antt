@@ -1,5 +1,5 @@
 -- What every step keeps: read off the summary of a cell, and off the tests of all cells for how much each says. Assumes nothing.
-use mathlib.Core.Path.{_≡_, refl, subst}
+use mathlib.Core.Path.{_≡_, refl}
 use mathlib.Core.Bool.{Bool, true, false, cond, not, _||_, true≢false}
 use mathlib.Core.List.{List, [], _∷_, _++_, map}
 use Prim.Native.Nat.{ℕ, _≤_}
@@ -13,24 +13,21 @@ use Rattle.unit.specs.Proving.{asked}
 use Rattle.unit.proofs.Proving.{at-most}
 use Rattle.table6.specs.Words as words
 use Rattle.table6.specs.Words.{NM, INS}
-use Rattle.table6.specs.Cell.{Told, cell, Choice, illegal, does, chosen}
+use Rattle.table6.specs.Cell.{Told, Choice, illegal, does}
 use Rattle.table6.specs.Order.{signals}
-use Rattle.table6.specs.Summary.{Count, same, decided, less, summary, still, sum}
-use Rattle.table6.specs.Rows.{printed, heading}
-use Rattle.table6.specs.Stored.{met}
+use Rattle.table6.specs.Summary.{Op, keep, put, Count, same, decided, less, summary, still, sum}
 use Rattle.table6.specs.Every.{own-message, own-messages, five, one-message}
 use Rattle.table6.proofs.Every.{Holds, at-most-five, at-most-one-message, of-choice}
 use Rattle.link.specs.declared.Num.{Num}
 use Rattle.link.specs.declared.Bsnt.{Bsnt}
 use Rattle.link.specs.declared.Carries.{Carries}
 use Rattle.link.specs.declared.Link.{Link}
-use Rattle.link.specs.declared.View.{View}
-use Rattle.link.specs.Effect.{taken, NoneIsZero}
+use Rattle.link.specs.Effect.{NoneIsZero}
 use Rattle.link.specs.Signal.{signalOf}
 use Rattle.link.specs.Step.{Meeting}
-use Rattle.link.specs.Stored.{viewOf, meetingOf, factsOf, counted}
+use Rattle.link.specs.Stored.{viewOf, meetingOf, factsOf, counted, held}
 use Rattle.link.specs.Kept.{messagesIn, messages, Keeps, Kept}
-use Rattle.link.proofs.Performed.{outcomeOf, as-met}
+use Rattle.link.proofs.Performed.{outcomeOf, choiceOf, by-choice}
 use Rattle.link.proofs.Spoken.{length-map}
 
 bounded : (c : Count) (field : ℕ) (l : Link) → l .c1 ≤ l .n1 → counted c field l ≤ l .n1
@@ -38,9 +35,10 @@ bounded same field l h = h
 bounded decided field l h = at-most (l .mps) (l .ups) (asked field) (l .n1)
 bounded (less c) field l h = omega (arith, bounded c field l h)
 
-kept-zero : (b : Bool) (n : Num) (old : Bsnt) → NoneIsZero old → NoneIsZero (cond b (taken n) old)
-kept-zero true n old h e = absurd (true≢false e)
-kept-zero false n old h e = h e
+kept-zero : (b : Op Bool) (n : Num) (old : Bsnt) → NoneIsZero old → NoneIsZero (held b n old)
+kept-zero keep n old h e = h e
+kept-zero (put true) n old h e = absurd (true≢false e)
+kept-zero (put false) n old h e = refl
 
 -- WHICH SIGNALS CARRY THE MESSAGE: those that the table's test counts
 
@@ -82,17 +80,13 @@ keeps l m (does acts next) h k =
     record {
       n1 = refl;
       c1 = bounded (s .c1) (m .param) l;
-      bsnt = kept-zero (s .takes) (m .number) (l .bsnt);
+      bsnt = kept-zero (s .bsnt) (m .number) (l .bsnt);
       five = rw (length-map (signalOf (m .param) (m .number) (l .mps) (l .ups) (l .bsnt .num)) (signals acts)) (leb-true (length (signals acts)) 5 h);
       one-message = rw (own-all (m .param) (m .number) (l .mps) (l .ups) (l .bsnt .num) (signals acts)) (leb-true (own-messages (signals acts)) 1 k);
     }
 
-keeps-there : (l : Link) (v : View) → Keeps l (outcomeOf l (meetingOf v) (met (v .0) (l .state) (factsOf l v)))
-unfolding met
-keeps-there l v =
-    keeps l (meetingOf v) (chosen (factsOf l v) (cell (printed (factsOf l v) (heading (v .0) .row)) (l .state)))
-    (of-choice five at-most-five (v .0) (l .state) (factsOf l v))
-    (of-choice one-message at-most-one-message (v .0) (l .state) (factsOf l v))
-
 pub kept : Kept
-kept l e = subst (Keeps l) (as-met l e) (keeps-there l (viewOf e (l .c1)))
+kept l e =
+    let v = viewOf e (l .c1) in
+    by-choice (Keeps l) l e
+    (keeps l (meetingOf v) (choiceOf l v) (of-choice five at-most-five (v .0) (l .state) (factsOf l v)) (of-choice one-message at-most-one-message (v .0) (l .state) (factsOf l v)))

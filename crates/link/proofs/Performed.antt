@@ -1,5 +1,5 @@
 -- The step is Table 6 performed: a summary does what its actions do, one by one, and a view shows the meeting that the event is. Assumes nothing.
-use mathlib.Core.Path.{_≡_, refl, sym, ap, _∙_}
+use mathlib.Core.Path.{_≡_, refl, sym, ap, subst, _∙_}
 use mathlib.Core.Bool.{Bool, true, false, cond}
 use mathlib.Core.List.{List, [], _∷_, _++_, map}
 use Prim.Native.Nat.{ℕ}
@@ -139,10 +139,21 @@ unfolding met
 met-there l v = as-performed l (meetingOf v) (chosen (facts l (meetingOf v)) (cell (printed (facts l (meetingOf v)) (heading (v .0) .row)) (l .state)))
 
 -- what an event does, from the summed-up cell that its view meets
-pub as-met : (l : Link) (e : Event) →
+as-met : (l : Link) (e : Event) →
     outcomeOf l (meetingOf (viewOf e (l .c1))) (met (viewOf e (l .c1) .0) (l .state) (factsOf l (viewOf e (l .c1)))) ≡ stepOf l e
 unfolding stepOf
 as-met l e = met-there l (viewOf e (l .c1)) ∙ ap (at-meeting l) (shown e (l .c1))
+
+-- what the facts choose in the cell that a view meets
+abbrev pub choiceOf : Link → View → Choice
+choiceOf l v = chosen (factsOf l v) (cell (printed (factsOf l v) (heading (v .0) .row)) (l .state))
+
+-- what holds of that choice, summed up, holds of the step
+pub by-choice : (P : Outcome → Type 0) (l : Link) (e : Event) →
+    let v = viewOf e (l .c1) in
+    P (outcomeOf l (meetingOf v) (sum (heading (v .0) .arrives) (choiceOf l v))) → P (stepOf l e)
+unfolding met
+by-choice P l e p = subst P (as-met l e) p
 
 pub stepped : (l : Link) (e : Event) (v : View) (f : Facts) (r : Met) → v ≡ viewOf e (l .c1) → f ≡ factsOf l v → metAs (l .state) r ≡ met (v .0) (l .state) f →
     outcomeOf l (meetingOf v) (metAs (l .state) r) ≡ stepOf l e

@@ -42,6 +42,9 @@ with-timer T3 x l = record { state = l .state; ins = l .ins; lpo = l .lpo; mps =
 abbrev pub taken : Num → Bsnt
 taken n = record { known = true; num = n }
 
+abbrev pub not-retrievable : Bsnt
+not-retrievable = record { known = false; num = none }
+
 -- "BSNT is 0 where not known."
 abbrev pub NoneIsZero : Bsnt → Type 0
 NoneIsZero b = b .known ≡ false → b .num ≡ none
@@ -50,9 +53,9 @@ NoneIsZero b = b .known ≡ false → b .num ≡ none
 abbrev pub generated : Link → ℕ → ℕ
 generated found field = table7 (found .mps) (found .ups) (asked field) (found .n1)
 
--- A connection comes up, with the peer's field: the INS flag is cleared and C1 is decided.
+-- A connection comes up, with the peer's field: the INS flag is cleared, C1 is decided, and BSNT is not retrievable any more.
 abbrev pub up : Link → ℕ → Link → Link
-up found field l = with-ins false (with-c1 (generated found field) l)
+up found field l = with-ins false (with-c1 (generated found field) (with-bsnt not-retrievable l))
 
 -- One action, of an event with this field and this number, on the record that the event found and on what has become of it. Telling alters the record
 -- only where it brings a connection up or orders a timer.

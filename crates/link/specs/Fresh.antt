@@ -5,7 +5,7 @@ use Rattle.unit.specs.declared.Mps.{Mps}
 use Rattle.unit.specs.declared.Ups.{Ups}
 use Rattle.table6.specs.Words.{1/1/1}
 use Rattle.link.specs.declared.Link.{Link}
-use Rattle.link.specs.Signal.{none}
+use Rattle.link.specs.Effect.{not-retrievable}
 
 abbrev pub freshLink : ℕ → Link
 freshLink n1 =
@@ -18,7 +18,7 @@ freshLink n1 =
       t1 = false;
       t2 = false;
       t3 = false;
-      bsnt = record { known = false; num = none };
+      bsnt = not-retrievable;
       c1 = 0;
       n1 = n1;
     }

@@ -1,22 +1,23 @@
 -- What the code's views, changes and words stand for. Nothing here has to be believed: the promises of the public functions tie it to specs/Step.antt.
 use Prim.Native.Nat.{ℕ, _-_}
-use mathlib.Core.Bool.{cond}
+use mathlib.Core.Bool.{Bool, true, false, cond}
 use mathlib.Core.List.{List, map}
 use lib.Dec.{eqb}
 use Rattle.unit.specs.declared.Arrived.{Arrived}
 use Rattle.table6.specs.declared.Facts.{Facts}
-use Rattle.table6.specs.Summary.{over, Count, same, decided, less, Summary}
+use Rattle.table6.specs.Summary.{Op, keep, put, over, Count, same, decided, less, Summary}
 use Rattle.table6.specs.Cell.{Told}
 use Rattle.table6.specs.Rows.{heading}
 use Rattle.table6.specs.Stored.{said}
 use Rattle.link.specs.declared.Num.{Num}
+use Rattle.link.specs.declared.Bsnt.{Bsnt}
 use Rattle.link.specs.declared.Link.{Link}
 use Rattle.link.specs.declared.Event.{Event}
 use Rattle.link.specs.declared.Event.the-variants as event
 use Rattle.link.specs.declared.View.{View}
 use Rattle.link.specs.declared.Signal.{Signal}
 use Rattle.link.specs.declared.Said.{Said}
-use Rattle.link.specs.Effect.{taken, generated}
+use Rattle.link.specs.Effect.{taken, not-retrievable, generated}
 use Rattle.link.specs.Signal.{none, signalOf}
 use Rattle.link.specs.Step.{Meeting, facts}
 
@@ -89,6 +90,17 @@ counted same field l = l .c1
 counted decided field l = generated l field
 counted (less c) field l = counted c field l - 1
 
+-- BSNT, as it was, with the number that came, or not retrievable; and an octet of it
+abbrev pub held : Op Bool → Num → Bsnt → Bsnt
+held keep n old = old
+held (put true) n old = taken n
+held (put false) n old = not-retrievable
+
+abbrev pub octetHeld : Op Bool → ℕ → ℕ → ℕ
+octetHeld keep n old = old
+octetHeld (put true) n old = n
+octetHeld (put false) n old = 0
+
 -- a summary applied, with the event's field and number
 abbrev pub summedUp : Summary → ℕ → Num → Link → Link
 summedUp s field n l =
@@ -101,7 +113,7 @@ summedUp s field n l =
       t1 = over (s .t1) (l .t1);
       t2 = over (s .t2) (l .t2);
       t3 = over (s .t3) (l .t3);
-      bsnt = cond (s .takes) (taken n) (l .bsnt);
+      bsnt = held (s .bsnt) n (l .bsnt);
       c1 = counted (s .c1) field l;
       n1 = l .n1;
     }

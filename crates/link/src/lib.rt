@@ -10,16 +10,15 @@ use unit::Mps;
 use unit::Status;
 use unit::Ups;
 ghost use mathlib.Core.Path.{_≡_};
-ghost use mathlib.Core.Bool.{true, cond};
 ghost use Prim.Native.Nat.{_-_};
 ghost use lib.ListN.{length};
 ghost use Rattle.table6.specs.Summary.{over};
-ghost use Rattle.table6.specs.Stored.{flagOp, mpsOp, upsOp, stateOp, countOp, takesOp, changed};
+ghost use Rattle.table6.specs.Stored.{flagOp, mpsOp, upsOp, stateOp, countOp, changed};
 ghost use Rattle.link.specs.Effect.{with-state};
 ghost use Rattle.link.specs.Fresh.{freshLink};
 ghost use Rattle.link.specs.Lent.{Turned};
 ghost use Rattle.link.specs.Step.{named, stepOf};
-ghost use Rattle.link.specs.Stored.{dataRowOf, t3RowOf, viewOf, meetingOf, factsOf, counted, summedUp, saidOf, signalsOf};
+ghost use Rattle.link.specs.Stored.{dataRowOf, t3RowOf, viewOf, meetingOf, factsOf, counted, octetHeld, summedUp, saidOf, signalsOf};
 
 // A number of 24 bits, its highest octet first; or the three values of a REPORT.
 pub struct Num {
@@ -267,15 +266,24 @@ fn state_after(x: u8, old: State) -> State
 
 // BSNT goes octet by octet: copied as one it would be packed and unpacked on the way.
 fn octet_after(x: u8, n: u8, old: u8) -> u8
-    ensures { λ r. ⌜ r ≡ cond (takesOp x) n old ⌝ }
+    ensures { λ r. ⌜ r ≡ octetHeld (flagOp x) n old ⌝ }
 {
-    if x == effects::TAKEN { n } else { old }
+    match x {
+        effects::K => old,
+        effects::TAKEN => n,
+        _ => 0,
+    }
 }
 
+// Whether BSNT is known. A flag like the others, which takes fewer instructions by a match (D63).
 fn known_after(x: u8, old: bool) -> bool
-    ensures { λ r. ⌜ r ≡ cond (takesOp x) true old ⌝ }
+    ensures { λ r. ⌜ r ≡ over (flagOp x) old ⌝ }
 {
-    if x == effects::TAKEN { true } else { old }
+    match x {
+        effects::K => old,
+        effects::TAKEN => true,
+        _ => false,
+    }
 }
 
 fn one_less(c: u16) -> u16
@@ -296,7 +304,7 @@ fn c1_after(x: u8, l: Link, field: u8) -> u16
     }
 }
 
-// The record after what a cell does to it.
+// The record after what a cell does to it. Of the orders that were tried this takes the fewest instructions (D63).
 fn applied(c: Change, v: View, l: Link) -> Link
     ensures { λ r. ⌜ r ≡ with-state (over (stateOp (c .0)) (l .state)) (summedUp (changed c) (meetingOf v .param) (meetingOf v .number) l) ⌝ }
 {
@@ -306,13 +314,13 @@ fn applied(c: Change, v: View, l: Link) -> Link
     let old_mps = l.mps;
     let old_ups = l.ups;
     Link {
+        t2: flag_after(t2, l.t2),
+        lpo: flag_after(lpo, l.lpo),
         state: state_after(to, old_state),
         ins: flag_after(ins, l.ins),
-        lpo: flag_after(lpo, l.lpo),
         mps: mps_after(mps, old_mps),
         ups: ups_after(ups, old_ups),
         t1: flag_after(t1, l.t1),
-        t2: flag_after(t2, l.t2),
         t3: flag_after(t3, l.t3),
         bsnt: Bsnt {
             known: known_after(bsnt, l.bsnt.known),

@@ -86,10 +86,10 @@ pub extern "C" fn sscf_fresh(table: &mut [u8], n1: u16) -> u32
     ACCEPTED
 }
 
-// The version, 0.2.0.
+// The version, 0.3.0.
 #[no_mangle]
 pub extern "C" fn sscf_version() -> u32
     ensures { λ a. ⌜ a ≡ version ⌝ }
 {
-    2000
+    3000
 }

@@ -92,7 +92,7 @@ left a b h = and-eq-true-iff a b .0 h .0
 pub right : (a b : Bool) → a && b ≡ true → b ≡ true
 right a b h = and-eq-true-iff a b .0 h .1
 
-of-states : (g : State → Bool) → in-states g ≡ true → (s : State) → g s ≡ true
+pub of-states : (g : State → Bool) → in-states g ≡ true → (s : State) → g s ≡ true
 of-states g h State.S111 = left (g State.S111) _ h
 of-states g h State.S141 = left (g State.S141) _ (right (g State.S111) _ h)
 of-states g h State.S212 = left (g State.S212) _ (right (g State.S141) _ (right (g State.S111) _ h))

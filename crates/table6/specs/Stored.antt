@@ -101,12 +101,9 @@ stateOp x =
 abbrev pub countOp : ℕ → Count
 countOp x = getD (decided ∷ less same ∷ []) x same
 
-abbrev pub takesOp : ℕ → Bool
-takesOp x = eqb x 1
-
 abbrev pub changed : Change → Summary
 changed c =
-    record { ins = flagOp (c .1); lpo = flagOp (c .2); mps = mpsOp (c .3); ups = upsOp (c .4); t1 = flagOp (c .5); t2 = flagOp (c .6); t3 = flagOp (c .7); c1 = countOp (c .8); takes = takesOp (c .9) }
+    record { ins = flagOp (c .1); lpo = flagOp (c .2); mps = mpsOp (c .3); ups = upsOp (c .4); t1 = flagOp (c .5); t2 = flagOp (c .6); t3 = flagOp (c .7); c1 = countOp (c .8); bsnt = flagOp (c .9) }
 
 -- SIGNALS
 
@@ -213,8 +210,8 @@ effects =
     ∷ gives none (40 ∷ [])  -- FSNC_
     ∷ gives none []  -- IGNOR
     ∷ asks LPO=0 (gives none (5 ∷ [])) (gives none (6 ∷ []))  -- EIND1
-    ∷ asks UU=EM-or-NM (gives (5, 0, K, K, K, 0, K, 1, 0, K) (39 ∷ 12 ∷ 30 ∷ 35 ∷ [])) (gives none (9 ∷ 24 ∷ []))  -- EIND3
-    ∷ asks UU=EM-or-NM (gives (5, 0, K, K, K, K, K, 1, 0, K) (12 ∷ 35 ∷ [])) (gives (4, 0, K, K, K, K, K, K, 0, K) (9 ∷ 24 ∷ []))  -- ECNF4
+    ∷ asks UU=EM-or-NM (gives (5, 0, K, K, K, 0, K, 1, 0, 0) (39 ∷ 12 ∷ 30 ∷ 35 ∷ [])) (gives none (9 ∷ 24 ∷ []))  -- EIND3
+    ∷ asks UU=EM-or-NM (gives (5, 0, K, K, K, K, K, 1, 0, 0) (12 ∷ 35 ∷ [])) (gives (4, 0, K, K, K, K, K, K, 0, 0) (9 ∷ 24 ∷ []))  -- ECNF4
     ∷ asks Source=User (gives (2, K, K, K, K, 1, K, K, K, K) (41 ∷ 33 ∷ [])) (gives (2, K, K, K, K, 1, K, K, K, K) (28 ∷ 33 ∷ []))  -- RIND_
     ∷ asks Source=User (gives (2, K, K, K, K, 1, K, 0, K, K) (41 ∷ 13 ∷ 32 ∷ 33 ∷ []))
     (gives (2, K, K, K, K, 1, K, 0, K, K) (28 ∷ 13 ∷ 32 ∷ 33 ∷ []))  -- RIND6

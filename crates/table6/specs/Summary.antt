@@ -31,37 +31,37 @@ pub record Summary : Type 0 where
   pub t2 : Op Bool
   pub t3 : Op Bool
   pub c1 : Count
-  pub takes : Bool
+  pub bsnt : Op Bool  -- known, with the number that came, or not retrievable
 
 abbrev pub still : Summary
-still = record { ins = keep; lpo = keep; mps = keep; ups = keep; t1 = keep; t2 = keep; t3 = keep; c1 = same; takes = false }
+still = record { ins = keep; lpo = keep; mps = keep; ups = keep; t1 = keep; t2 = keep; t3 = keep; c1 = same; bsnt = keep }
 
 abbrev pub with-ins : Op Bool → Summary → Summary
-with-ins x s = record { ins = x; lpo = s .lpo; mps = s .mps; ups = s .ups; t1 = s .t1; t2 = s .t2; t3 = s .t3; c1 = s .c1; takes = s .takes }
+with-ins x s = record { ins = x; lpo = s .lpo; mps = s .mps; ups = s .ups; t1 = s .t1; t2 = s .t2; t3 = s .t3; c1 = s .c1; bsnt = s .bsnt }
 
 abbrev pub with-lpo : Op Bool → Summary → Summary
-with-lpo x s = record { ins = s .ins; lpo = x; mps = s .mps; ups = s .ups; t1 = s .t1; t2 = s .t2; t3 = s .t3; c1 = s .c1; takes = s .takes }
+with-lpo x s = record { ins = s .ins; lpo = x; mps = s .mps; ups = s .ups; t1 = s .t1; t2 = s .t2; t3 = s .t3; c1 = s .c1; bsnt = s .bsnt }
 
 abbrev pub with-mps : Op Mps → Summary → Summary
-with-mps x s = record { ins = s .ins; lpo = s .lpo; mps = x; ups = s .ups; t1 = s .t1; t2 = s .t2; t3 = s .t3; c1 = s .c1; takes = s .takes }
+with-mps x s = record { ins = s .ins; lpo = s .lpo; mps = x; ups = s .ups; t1 = s .t1; t2 = s .t2; t3 = s .t3; c1 = s .c1; bsnt = s .bsnt }
 
 abbrev pub with-ups : Op Ups → Summary → Summary
-with-ups x s = record { ins = s .ins; lpo = s .lpo; mps = s .mps; ups = x; t1 = s .t1; t2 = s .t2; t3 = s .t3; c1 = s .c1; takes = s .takes }
+with-ups x s = record { ins = s .ins; lpo = s .lpo; mps = s .mps; ups = x; t1 = s .t1; t2 = s .t2; t3 = s .t3; c1 = s .c1; bsnt = s .bsnt }
 
 abbrev pub with-c1 : Count → Summary → Summary
-with-c1 x s = record { ins = s .ins; lpo = s .lpo; mps = s .mps; ups = s .ups; t1 = s .t1; t2 = s .t2; t3 = s .t3; c1 = x; takes = s .takes }
+with-c1 x s = record { ins = s .ins; lpo = s .lpo; mps = s .mps; ups = s .ups; t1 = s .t1; t2 = s .t2; t3 = s .t3; c1 = x; bsnt = s .bsnt }
 
 abbrev pub with-timer : Timer → Bool → Summary → Summary
-with-timer T1 x s = record { ins = s .ins; lpo = s .lpo; mps = s .mps; ups = s .ups; t1 = put x; t2 = s .t2; t3 = s .t3; c1 = s .c1; takes = s .takes }
-with-timer T2 x s = record { ins = s .ins; lpo = s .lpo; mps = s .mps; ups = s .ups; t1 = s .t1; t2 = put x; t3 = s .t3; c1 = s .c1; takes = s .takes }
-with-timer T3 x s = record { ins = s .ins; lpo = s .lpo; mps = s .mps; ups = s .ups; t1 = s .t1; t2 = s .t2; t3 = put x; c1 = s .c1; takes = s .takes }
+with-timer T1 x s = record { ins = s .ins; lpo = s .lpo; mps = s .mps; ups = s .ups; t1 = put x; t2 = s .t2; t3 = s .t3; c1 = s .c1; bsnt = s .bsnt }
+with-timer T2 x s = record { ins = s .ins; lpo = s .lpo; mps = s .mps; ups = s .ups; t1 = s .t1; t2 = put x; t3 = s .t3; c1 = s .c1; bsnt = s .bsnt }
+with-timer T3 x s = record { ins = s .ins; lpo = s .lpo; mps = s .mps; ups = s .ups; t1 = s .t1; t2 = s .t2; t3 = put x; c1 = s .c1; bsnt = s .bsnt }
 
-abbrev pub taking : Summary → Summary
-taking s = record { ins = s .ins; lpo = s .lpo; mps = s .mps; ups = s .ups; t1 = s .t1; t2 = s .t2; t3 = s .t3; c1 = s .c1; takes = true }
+abbrev pub with-bsnt : Op Bool → Summary → Summary
+with-bsnt x s = record { ins = s .ins; lpo = s .lpo; mps = s .mps; ups = s .ups; t1 = s .t1; t2 = s .t2; t3 = s .t3; c1 = s .c1; bsnt = x }
 
--- A connection comes up: the INS flag is cleared and C1 is decided.
+-- A connection comes up: the INS flag is cleared, C1 is decided, and BSNT is not retrievable any more.
 abbrev pub up : Summary → Summary
-up s = with-ins (put false) (with-c1 decided s)
+up s = with-ins (put false) (with-c1 decided (with-bsnt (put false) s))
 
 -- One action more.
 abbrev pub then-told : Told → Summary → Summary
@@ -100,7 +100,7 @@ then-done Done.Generate-N1 s = s
 then-done Done.Set-C1=N1 s = with-c1 decided s
 then-done Done.Decrement-C1 s = with-c1 (less (s .c1)) s
 then-done Done.connection-up s = up s
-then-done Done.take-BSNT s = taking s
+then-done Done.take-BSNT s = with-bsnt (put true) s
 then-done (Done.end t) s = with-timer t false s
 
 abbrev pub then : Act → Summary → Summary

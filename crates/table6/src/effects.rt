@@ -45,8 +45,10 @@ pub const DECIDED: u8 = 0;
 
 pub const LESS: u8 = 1;
 
-// BSNT becomes the number that came.
+// BSNT becomes the number that came, or is not retrievable any more.
 pub const TAKEN: u8 = 1;
+
+pub const FORGOTTEN: u8 = 0;
 
 // The next state; the INS flag, LPO, MPS, UPS; T1, T2, T3; C1, BSNT.
 pub struct Change(
@@ -254,7 +256,7 @@ pub(crate) fn does(code: u8, f: Facts) -> Met
         },
         cells::EIND3 => if f.uu {
             Met::Does(
-                Change(TO_2103, OFF, K, K, K, OFF, K, ON, DECIDED, K),
+                Change(TO_2103, OFF, K, K, K, OFF, K, ON, DECIDED, FORGOTTEN),
                 say4(ESTABLISH_RESPONSE, PROVE, RESET_T1, SET_T3),
             )
         } else {
@@ -262,12 +264,12 @@ pub(crate) fn does(code: u8, f: Facts) -> Met
         },
         cells::ECNF4 => if f.uu {
             Met::Does(
-                Change(TO_2103, OFF, K, K, K, K, K, ON, DECIDED, K),
+                Change(TO_2103, OFF, K, K, K, K, K, ON, DECIDED, FORGOTTEN),
                 say2(PROVE, SET_T3),
             )
         } else {
             Met::Does(
-                Change(TO_242, OFF, K, K, K, K, K, K, DECIDED, K),
+                Change(TO_242, OFF, K, K, K, K, K, K, DECIDED, FORGOTTEN),
                 say2(RELEASE_PE, REPORT_LR_PE),
             )
         },

@@ -1,16 +1,17 @@
 -- `link::applied` meets its contract: field by field. Assumes nothing.
 use borrow.Author.Needs.{needs}
 use mathlib.Core.Path.{_≡_}
-use mathlib.Core.Bool.{Bool, true, false, cond}
+use mathlib.Core.Bool.{Bool, true, false}
 use Prim.Native.Nat.{ℕ}
 use Rattle.unit.specs.declared.Mps.{Mps}
 use Rattle.unit.specs.declared.Ups.{Ups}
 use Rattle.table6.specs.declared.State.{State}
-use Rattle.table6.specs.Stored.{takesOp}
+use Rattle.table6.specs.Summary.{Op, keep, put, over}
+use Rattle.table6.specs.Stored.{flagOp}
 use Rattle.link.specs.declared.Num.{Num}
 use Rattle.link.specs.declared.Bsnt.{Bsnt}
 use Rattle.link.specs.declared.Link.{Link}
-use Rattle.link.specs.Effect.{taken}
+use Rattle.link.specs.Stored.{held, octetHeld}
 use Rattle.link.proofs.applied.Statement.{statement}
 use Rattle.link.proofs.applied.Tie as tie
 
@@ -66,29 +67,30 @@ c1-after-requires : tie.Need-c1-after-requires
 c1-after-requires c κs = search needs
 
 -- BSNT, from its octets
-held : (b : Bool) (n : Num) (o : Bsnt) {k : Bool} {x y z : ℕ} → k ≡ cond b true (o .known) → x ≡ cond b (n .a) (o .num .a) → y ≡ cond b (n .b) (o .num .b) →
-    z ≡ cond b (n .c) (o .num .c) → bsnt k x y z ≡ cond b (taken n) o
-held true n o p q r t = λ i. bsnt (p i) (q i) (r i) (t i)
-held false n o p q r t = λ i. bsnt (p i) (q i) (r i) (t i)
+whole : (b : Op Bool) (n : Num) (o : Bsnt) {k : Bool} {x y z : ℕ} → k ≡ over b (o .known) → x ≡ octetHeld b (n .a) (o .num .a) →
+    y ≡ octetHeld b (n .b) (o .num .b) → z ≡ octetHeld b (n .c) (o .num .c) → bsnt k x y z ≡ held b n o
+whole keep n o p q r t = λ i. bsnt (p i) (q i) (r i) (t i)
+whole (put true) n o p q r t = λ i. bsnt (p i) (q i) (r i) (t i)
+whole (put false) n o p q r t = λ i. bsnt (p i) (q i) (r i) (t i)
 
 returns : tie.Need-returns
 returns c =
     let a = c .before .before .before .before .before .before .before .before .before .before .before .before .before .before .args in
-    each (a .l .n1) (c .before .before .before .before .before .before .before .before .before .before .before .before .state-after .ensures) (c .before .before .before .before .before .before .before .before .before .before .before .flag-after .ensures) (c .before .before .before .before .before .before .before .before .before .before .flag-after2 .ensures) (c .before .before .before .before .before .before .before .before .before .mps-after .ensures) (c .before .before .before .before .before .before .before .before .ups-after .ensures)
-    (c .before .before .before .before .before .before .before .flag-after3 .ensures) (c .before .before .before .before .before .before .flag-after4 .ensures) (c .before .before .before .before .before .flag-after5 .ensures)
-    (held (takesOp (a .c .9)) (a .v .2) (a .l .bsnt) (c .before .before .before .before .known-after .ensures) (c .before .before .before .octet-after .ensures) (c .before .before .octet-after2 .ensures) (c .before .octet-after3 .ensures))
+    each (a .l .n1) (c .before .before .before .before .before .before .before .before .before .before .state-after .ensures) (c .before .before .before .before .before .before .before .before .before .flag-after3 .ensures) (c .before .before .before .before .before .before .before .before .before .before .before .flag-after2 .ensures) (c .before .before .before .before .before .before .before .before .mps-after .ensures) (c .before .before .before .before .before .before .before .ups-after .ensures)
+    (c .before .before .before .before .before .before .flag-after4 .ensures) (c .before .before .before .before .before .before .before .before .before .before .before .before .flag-after .ensures) (c .before .before .before .before .before .flag-after5 .ensures)
+    (whole (flagOp (a .c .9)) (a .v .2) (a .l .bsnt) (c .before .before .before .before .known-after .ensures) (c .before .before .before .octet-after .ensures) (c .before .before .octet-after2 .ensures) (c .before .octet-after3 .ensures))
     (c .c1-after .ensures)
 
 pub applied-spec : {M : Type 1} → statement M
 applied-spec =
     tie.close
     (tie.spec
-    state-after-requires
     flag-after-requires
     flag-after-requires-2
+    state-after-requires
+    flag-after-requires-3
     mps-after-requires
     ups-after-requires
-    flag-after-requires-3
     flag-after-requires-4
     flag-after-requires-5
     known-after-requires

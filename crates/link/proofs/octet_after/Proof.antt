@@ -1,13 +1,16 @@
 -- `link::octet_after` meets its contract. Assumes nothing.
-use borrow.Author.Tests.{eq-eqb, ne-eqb}
+use borrow.Author.Tests.{ne-eqb}
 use Rattle.link.proofs.octet_after.Statement.{statement}
 use Rattle.link.proofs.octet_after.Tie as tie
 
 returns : tie.Need-returns
-returns c = simp (eq-eqb _ _ (c .if1 .taken))
+returns c = rw (c .match .keys1)
 
 returns-2 : tie.Need-returns-2
-returns-2 c = simp (ne-eqb _ _ (c .if1 .left))
+returns-2 c = rw (c .match .keys2)
+
+returns-3 : tie.Need-returns-3
+returns-3 c = simp (ne-eqb _ _ (c .match .rest .0 .1), ne-eqb _ _ (c .match .rest .1))
 
 pub octet-after-spec : {M : Type 1} → statement M
-octet-after-spec = tie.close (tie.spec returns returns-2)
+octet-after-spec = tie.close (tie.spec returns returns-2 returns-3)
