@@ -32,6 +32,8 @@ struct call {
 static struct call call;
 
 static unsigned long calls, into_service, out_of_service;
+static unsigned long forgotten[2]; /* a known BSNT, by ESTABLISH_CONFIRM and by ESTABLISH_INDICATION */
+static unsigned long retrieved[2]; /* RETRIEVE_BSNT answered, without a number and with one */
 static unsigned long step_refusals[10], fresh_refusals[10];
 
 /*
@@ -125,17 +127,29 @@ static void differ_in_fresh(const struct call *c, unsigned n1, uint32_t a, uint3
 
 /* The two calls, each made on both sides. */
 
-static void count_service(const struct call *c)
+static void count_service(const uint8_t *before, const uint8_t *after)
 {
-    size_t at = SSCF_LINK_AT_STATE;
+    if (before[SSCF_LINK_AT_STATE] == after[SSCF_LINK_AT_STATE])
+        return;
+    into_service += after[SSCF_LINK_AT_STATE] == SSCF_STATE_3_10_5;
+    out_of_service += before[SSCF_LINK_AT_STATE] == SSCF_STATE_3_10_5;
+}
 
-    if (c->event_octets < HEAD)
-        return;
-    at += RECORD * (size_t)sscf_get_16(c->event + SSCF_HEAD_AT_LINK);
-    if (at >= c->table_octets || c->table[at] == library.table[at])
-        return;
-    into_service += library.table[at] == SSCF_STATE_3_10_5;
-    out_of_service += c->table[at] == SSCF_STATE_3_10_5;
+static void count_bsnt(unsigned code, const uint8_t *before, const uint8_t *after)
+{
+    if (before[SSCF_LINK_AT_BSNT_KNOWN] == 1 && after[SSCF_LINK_AT_BSNT_KNOWN] == 0)
+        forgotten[code == SSCF_EVENT_ESTABLISH_INDICATION]++;
+    if (code == SSCF_EVENT_RETRIEVE_BSNT)
+        retrieved[library.out[SSCF_HEAD_AT_CODE] == SSCF_SIGNAL_BSNT]++;
+}
+
+/* What an accepted step did to its link. */
+static void count(const struct call *c)
+{
+    size_t at = RECORD * (size_t)sscf_get_16(c->event + SSCF_HEAD_AT_LINK);
+
+    count_service(c->table + at, library.table + at);
+    count_bsnt(c->event[SSCF_HEAD_AT_CODE], c->table + at, library.table + at);
 }
 
 static uint32_t step(struct call *c)
@@ -153,7 +167,8 @@ static uint32_t step(struct call *c)
         differ_in_step(c, a, b);
     if (a.refusal < 10)
         step_refusals[a.refusal]++;
-    count_service(c);
+    if (a.refusal == SSCF_ACCEPTED)
+        count(c);
     memcpy(c->table, library.table, c->table_octets);
     return a.refusal;
 }
@@ -772,7 +787,7 @@ static void histories(unsigned long count)
 
 int main(int argc, char **argv)
 {
-    unsigned long count = argc > 2 ? strtoul(argv[2], NULL, 0) : 1000000, before;
+    unsigned long random_calls = argc > 2 ? strtoul(argv[2], NULL, 0) : 1000000, before;
     int failed;
 
     seed(argc > 1 ? strtoul(argv[1], NULL, 0) : 2140);
@@ -789,14 +804,17 @@ int main(int argc, char **argv)
     every_fresh_length();
     printf("checks: %lu calls\n", calls - before);
     before = calls;
-    into_service = out_of_service = 0;
-    histories(count);
+    into_service = out_of_service = forgotten[0] = forgotten[1] = retrieved[0] = retrieved[1] = 0;
+    histories(random_calls);
     printf("histories: %lu calls, links into service %lu times, out of it %lu times\n", calls - before,
            into_service, out_of_service);
+    printf("BSNT: forgotten %lu times by a confirm, %lu times by a response; retrieved %lu times, %lu times not\n",
+           forgotten[0], forgotten[1], retrieved[1], retrieved[0]);
     failed = never_seen("step", step_refusals, 0x3FF);
     failed |= never_seen("fresh", fresh_refusals,
                          1 << SSCF_ACCEPTED | 1 << SSCF_REFUSED_TABLE | 1 << SSCF_REFUSED_FIELD);
     failed |= into_service == 0 || out_of_service == 0;
+    failed |= forgotten[0] == 0 || forgotten[1] == 0 || retrieved[0] == 0 || retrieved[1] == 0;
     printf("compare: %lu calls, 0 differences\n", calls);
     return failed;
 }

@@ -150,6 +150,11 @@ static void want_bsnt(unsigned link, uint32_t number)
     sscf_put_24(record + SSCF_LINK_AT_BSNT, number);
 }
 
+static void want_no_bsnt(unsigned link)
+{
+    memset(want.table + SSCF_LINK_OCTETS * link + SSCF_LINK_AT_BSNT_KNOWN, 0, 4);
+}
+
 /* The calls. A buffer of no octets is lent as a null pointer. */
 
 static uint8_t *lent(uint8_t *buffer, size_t octets)
@@ -465,6 +470,116 @@ static void timer_orders(void)
     want_bare_signal(0, SSCF_SIGNAL_RESET_T1);
     want_bare_signal(0, SSCF_SIGNAL_RESET_T2);
     STEP(SSCF_ACCEPTED);
+}
+
+/* Request 2026-02: the number of an earlier connection is forgotten when the next one comes up. */
+
+static const uint32_t old_number = 0x123456;
+
+/* Link 1 proves, and has received the old number. */
+static void has_a_number(void)
+{
+    set_up(2);
+    put_link(1, SSCF_STATE_2_10_3, 0, T2 + T3, 7, 1000);
+    put_event(1, SSCF_EVENT_DATA, 0, old_number, nm_unit, sizeof nm_unit);
+    want_bsnt(1, old_number);
+    STEP(SSCF_ACCEPTED);
+}
+
+static void stops_proving(unsigned c1)
+{
+    put_bare_event(1, SSCF_EVENT_STOP);
+    want_link(1, SSCF_STATE_1_4_1, 0, 0, c1);
+    want_signal(1, SSCF_SIGNAL_RELEASE_REQUEST, SSCF_STATUS_OOS, 0, NULL, 0);
+    want_report(1, SSCF_REPORT_LOWER_LR, SSCF_REPORT_UPPER_OOS, 0);
+    want_bare_signal(1, SSCF_SIGNAL_STOP_PROVING);
+    want_bare_signal(1, SSCF_SIGNAL_RESET_T2);
+    want_bare_signal(1, SSCF_SIGNAL_RESET_T3);
+    STEP(SSCF_ACCEPTED);
+}
+
+static void number_is(int known)
+{
+    put_bare_event(1, SSCF_EVENT_RETRIEVE_BSNT);
+    if (known)
+        want_signal(1, SSCF_SIGNAL_BSNT, 0, old_number, NULL, 0);
+    else
+        want_bare_signal(1, SSCF_SIGNAL_BSNT_NOT_RETRIEVABLE);
+    STEP(SSCF_ACCEPTED);
+}
+
+/* By ESTABLISH_CONFIRM, whatever its field; not by the release, the START or the request before. */
+static void forgets_by_confirm(void)
+{
+    unsigned field;
+
+    for (field = 0; field <= SSCF_STATUS_PNS; field++) {
+        unsigned c1 = field == SSCF_STATUS_EM ? 0 : 1000;
+
+        if (field == 6) /* no status */
+            continue;
+        turn = field;
+        has_a_number();
+        stops_proving(7);
+        number_is(1);
+        put_bare_event(1, SSCF_EVENT_START);
+        want_link(1, SSCF_STATE_2_2_2, 0, T2, 7);
+        want_signal(1, SSCF_SIGNAL_ESTABLISH_REQUEST, SSCF_STATUS_NM, 0, NULL, 0);
+        want_report(1, 0, SSCF_REPORT_UPPER_ALN, 0);
+        want_bare_signal(1, SSCF_SIGNAL_SET_T2);
+        STEP(SSCF_ACCEPTED);
+
+        put_event(1, SSCF_EVENT_ESTABLISH_CONFIRM, field, 0, NULL, 0);
+        want_no_bsnt(1);
+        if (field == SSCF_STATUS_NM || field == SSCF_STATUS_EM) {
+            want_link(1, SSCF_STATE_2_10_3, 0, T2 + T3, c1);
+            want_bare_signal(1, SSCF_SIGNAL_START_PROVING);
+            want_bare_signal(1, SSCF_SIGNAL_SET_T3);
+            STEP(SSCF_ACCEPTED);
+            stops_proving(c1);
+        } else { /* and is released for its field */
+            want_link(1, SSCF_STATE_2_4_2, 0, T2, c1);
+            want_signal(1, SSCF_SIGNAL_RELEASE_REQUEST, SSCF_STATUS_PE, 0, NULL, 0);
+            want_report(1, SSCF_REPORT_LOWER_LR, 0, SSCF_REPORT_REASON_PE);
+            STEP(SSCF_ACCEPTED);
+            put_bare_event(1, SSCF_EVENT_STOP);
+            want_link(1, SSCF_STATE_1_4_1, 0, 0, c1);
+            want_report(1, 0, SSCF_REPORT_UPPER_OOS, 0);
+            want_bare_signal(1, SSCF_SIGNAL_RESET_T2);
+            STEP(SSCF_ACCEPTED);
+        }
+        number_is(0);
+    }
+}
+
+/* By ESTABLISH_RESPONSE; not by the far end's release, nor where its call is turned down. */
+static void forgets_by_response(void)
+{
+    has_a_number();
+    put_event(1, SSCF_EVENT_RELEASE_INDICATION, SSCF_STATUS_PO, SSCF_SOURCE_USER, NULL, 0);
+    want_link(1, SSCF_STATE_2_1_2, 0, T1 + T2, 7);
+    want_signal(1, SSCF_SIGNAL_REPORT, SSCF_STATUS_PO,
+                three(SSCF_REPORT_LOWER_RR, 0, SSCF_REPORT_REASON_SSCOP_UU), NULL, 0);
+    want_bare_signal(1, SSCF_SIGNAL_STOP_PROVING);
+    want_bare_signal(1, SSCF_SIGNAL_RESET_T3);
+    want_bare_signal(1, SSCF_SIGNAL_SET_T1);
+    STEP(SSCF_ACCEPTED);
+
+    put_event(1, SSCF_EVENT_ESTABLISH_INDICATION, SSCF_STATUS_INS, 0, NULL, 0);
+    want_signal(1, SSCF_SIGNAL_RELEASE_REQUEST, SSCF_STATUS_PE, 0, NULL, 0);
+    want_report(1, SSCF_REPORT_LOWER_LR, 0, SSCF_REPORT_REASON_PE);
+    STEP(SSCF_ACCEPTED);
+
+    put_event(1, SSCF_EVENT_ESTABLISH_INDICATION, SSCF_STATUS_NM, 0, NULL, 0);
+    want_no_bsnt(1);
+    want_link(1, SSCF_STATE_2_10_3, 0, T2 + T3, 1000);
+    want_signal(1, SSCF_SIGNAL_ESTABLISH_RESPONSE, SSCF_STATUS_NM, 0, NULL, 0);
+    want_bare_signal(1, SSCF_SIGNAL_START_PROVING);
+    want_bare_signal(1, SSCF_SIGNAL_RESET_T1);
+    want_bare_signal(1, SSCF_SIGNAL_SET_T3);
+    STEP(SSCF_ACCEPTED);
+    stops_proving(1000);
+    number_is(0);
 }
 
 /* How many units a connection sends (Table 7), and what the peer is told (Table 8). */
@@ -1085,7 +1200,8 @@ int main(void)
 {
     static void (*const parts[])(void) = {
         version,       fresh_tables,   fresh_refusals, first_use,     first_use_by_helpers,
-        into_service,  one_life,       messages,       timer_orders,  haste,
+        into_service,  one_life,       messages,       timer_orders,  forgets_by_confirm,
+        forgets_by_response, haste,
         broken_lengths, broken_frames, broken_fields,  broken_records, states,
         crossings,     several_wrong,  changeovers,    changeover_bits, changeover_widths,
         changeover_lengths, changeover_headings_and_services, every_changeover_octet,
