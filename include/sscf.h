@@ -52,6 +52,13 @@
  * the connection came up, these are n1 units; where it had forced emergency (FORCE_EMERGENCY), none
  * is ever sent.
  *
+ * Nor does a changeover get a number from an earlier connection. After every such sequence of calls
+ * this is proved: where RETRIEVE_BSNT is accepted, it is answered by BSNT with the number of the
+ * latest DATA that was accepted since the link's latest connection came up, whether or not that
+ * connection has been released since, and by BSNT_NOT_RETRIEVABLE exactly if there was none. A
+ * connection comes up when ESTABLISH_CONFIRM is accepted, whatever its field, or when
+ * ESTABLISH_RESPONSE is given.
+ *
  * A FIRST USE
  *
  *     uint8_t table[4 * SSCF_LINK_OCTETS];
@@ -113,10 +120,9 @@
  *   that is congested, hand in CONGESTION for it (again): this gives the connection up, and the
  *   link tries again after T1.
  *
- * Where the stack is short: a step takes 200 octets, by the archive's listing, and in 0.1.1, which
- * has the same code for it, also on a painted stack with every event in every state. glibc's
- * memmove takes none, but where it is bound lazily its first call runs the dynamic loader, which
- * took 3 KB there.
+ * Where the stack is short: a step takes 184 octets, by the archive's listing, and on a painted
+ * stack with every event in every state. glibc's memmove takes none, but where it is bound lazily
+ * its first call runs the dynamic loader, which took 3 KB on such a stack with 0.1.1.
  */
 #ifndef SSCF_H
 #define SSCF_H
@@ -128,8 +134,8 @@
 extern "C" {
 #endif
 
-#define SSCF_VERSION "0.2.0"
-#define SSCF_VERSION_NUMBER 2000 /* 1,000,000 x 0 + 1,000 x 2 + 0 */
+#define SSCF_VERSION "0.3.0"
+#define SSCF_VERSION_NUMBER 3000 /* 1,000,000 x 0 + 1,000 x 3 + 0 */
 
 /* LIMITS */
 
@@ -157,9 +163,10 @@ extern "C" {
  *      5      UPS, what the user wishes, SSCF_UPS_...
  *      6      the timers running, a sum of SSCF_TIMER_...
  *      7      1 if BSNT is known, else 0
- *      8-10   BSNT, the number of the latest DATA accepted, whatever became of it (a unit, or one
- *             that was dropped or a protocol error, counts too), kept until the next DATA, also
- *             through later connections; 0 where not known
+ *      8-10   BSNT, the number of the latest DATA accepted since the link's latest connection came
+ *             up, whatever became of it (a unit, or one that was dropped or a protocol error,
+ *             counts too); kept until the next DATA or the next connection that comes up, also
+ *             over a release; 0 where not known
  *      11     0
  *      12-13  C1, the proving units still to be sent
  *      14-15  n1, the proving units of normal proving, at least 1
@@ -268,8 +275,9 @@ enum sscf_status {
  *
  * The user starts a link (START) and stops it (STOP), asks for proving to be left out (EMERGENCY)
  * or no longer so (EMERGENCY_CEASES), and sends. For a changeover it asks, out of service, for the
- * number of the latest DATA that was accepted (RETRIEVE_BSNT), and for those of its own messages
- * that the peer has not accepted, FSNC being the last it has (RETRIEVAL_REQUEST_AND_FSNC).
+ * number of the latest DATA that was accepted on the link's latest connection (RETRIEVE_BSNT), and
+ * for those of its own messages that the peer has not accepted, FSNC being the last it has
+ * (RETRIEVAL_REQUEST_AND_FSNC).
  */
 enum sscf_event {
     /* From the user. */
@@ -342,8 +350,8 @@ enum sscf_signal {
     SSCF_SIGNAL_OUT_OF_SERVICE = 5,        /* no more until the next IN_SERVICE */
     SSCF_SIGNAL_RETRIEVED_MESSAGES = 6,    /* message, 5 to 4,096 octets */
     SSCF_SIGNAL_RETRIEVAL_COMPLETE = 7,
-    SSCF_SIGNAL_BSNT = 8,                  /* number: that of the latest DATA accepted */
-    SSCF_SIGNAL_BSNT_NOT_RETRIEVABLE = 9,  /* there was none since the table was made */
+    SSCF_SIGNAL_BSNT = 8,                  /* number: BSNT, octets 8-10 of the link record */
+    SSCF_SIGNAL_BSNT_NOT_RETRIEVABLE = 9,  /* no DATA since the latest connection came up */
 
     /* To SSCOP. Octet 8 of ESTABLISH is the buffer release parameter, 1 for yes, 0 for no. */
     SSCF_SIGNAL_ESTABLISH_REQUEST = 16,    /* octet 5: NM or EM; octet 8: 0 */
@@ -526,11 +534,11 @@ uint32_t sscf_version(void);
  *   number as FSNC. Where two orders cross, each brings what the acknowledgement would: the number
  *   is handed in once.
  * - START waits until all this is over: from state 3 on RETRIEVE_BSNT and the FSNC are refused.
- * - After BSNT_NOT_RETRIEVABLE there is no number to send. Nor is BSNT a number to send if nothing
- *   was received on the link's latest connection: it is then still that of the connection before
- *   (see the link record), and the library does not tell. A link that was in service on its latest
- *   connection has received the peer's INS unit on it. Q.704 has an emergency changeover for an end
- *   without a number. It is not written here, and there is no FSNC for "unknown".
+ * - After BSNT_NOT_RETRIEVABLE there is no number to send: nothing was received on the link's
+ *   latest connection, and the number of an earlier one is given no more. A link that was in
+ *   service on its latest connection has received the peer's INS unit on it, and has a number.
+ *   Q.704 has an emergency changeover for an end without one. It is not written here, and there is
+ *   no FSNC for "unknown".
  *
  * How long to wait for an XCA, and whether a number can be right, is level 3's to know.
  *
