@@ -1,11 +1,12 @@
 -- BSNT over every sequence of calls: ONE TEST OVER TABLE 6, computed, and what RETRIEVE_BSNT answers by it. Assumes nothing.
-use mathlib.Core.Path.{_≡_, refl, sym, ap, subst, _∙_}
+use mathlib.Core.Path.{_≡_, refl, sym, ap, _∙_}
 use mathlib.Core.Logic.{_↔_}
 use mathlib.Core.Bool.{Bool, true, false, cond, not, _&&_, _||_, false≢true}
 use mathlib.Core.List.{List, [], _∷_, _++_, map}
 use Prim.Native.Nat.{ℕ}
 use native.Mathlib.Omega.{arith}
 use lib.Dec.{eqb}
+use lib.ListN.{take, drop}
 use Rattle.unit.specs.declared.Arrived.{Arrived}
 use Rattle.unit.specs.declared.Mps.{Mps}
 use Rattle.unit.specs.declared.Ups.{Ups}
@@ -34,23 +35,24 @@ use Rattle.link.specs.Signal.{signalOf}
 use Rattle.link.specs.Step.{Outcome, Illegal, Legal, stepOf}
 use Rattle.link.specs.Stored.{viewOf, meetingOf, factsOf, held}
 use Rattle.link.proofs.Performed.{outcomeOf, choiceOf, by-choice}
-use Rattle.record.specs.LinkRecord.{linkOf}
+use Rattle.octet.specs.Octets.{at}
+use Rattle.record.specs.LinkRecord.{linkOf, octetsOf}
 use Rattle.record.proofs.LinkRecord.{unpacked}
 use Rattle.event.specs.Frame.{written, linkAt, codeAt, paramAt, numberAt, lengthAt, messageOf}
 use Rattle.event.specs.EventRecord.{codedAt, said, eventOf, misfit}
 use Rattle.signal.specs.SignalRecord.{signalOctets}
 use Rattle.sscf.specs.Step.{recordAt, stepCall}
 use Rattle.sscf.proofs.Untouched.{accepted-written}
-use Rattle.history.specs.Calls.{signalsIn, World}
+use Rattle.history.specs.Calls.{World}
 use Rattle.history.specs.History.{Mark, accepted, eventMark, signalMark, with-signals, history, none}
 use Rattle.history.specs.Pics.{_⇒_, linkIn, plain}
-use Rattle.history.specs.Bsnt.{forgets, Latest, Asked, Answers, retrieved, not-retrieved, RetrieveBsnt, RecordBsnt, answer, Retrieves}
-use Rattle.history.specs.Tests.{alive, bsnt}
+use Rattle.history.specs.Bsnt.{newConnection, Latest, Asked, Answers, retrieved, not-retrieved, RetrieveBsnt, bsntOctets, RecordBsnt, answer, Retrieves}
+use Rattle.history.specs.Tests.{bsnt}
 use Rattle.history.proofs.Tested.{connection, not-none}
-use Rattle.history.proofs.Latest.{latest-tested}
+use Rattle.history.proofs.Latest.{latest-tested, none-told}
 use Rattle.history.proofs.Lawful.{implied}
 use Rattle.history.proofs.Walk.{Kind, quiet, stops, confirms, releases, hears, receives, wishes, forces, Of, counting, each}
-use Rattle.history.proofs.Table.{Now, down, on, now, Sort, sortAt, sameOp, Test, Passes, choice-ok}
+use Rattle.history.proofs.Table.{Now, down, on, now, sortAt, sameOp, Test, Passes, choice-ok}
 use Rattle.history.proofs.Calls.{emitted-ones, Keeps, Invariant, Kept, after-each-call}
 use Rattle.history.proofs.Events.{Told, sorted}
 use Rattle.history.proofs.Step.{NowIs, Inv, keeps-inv, same-op, twice}
@@ -98,14 +100,14 @@ bit-back true = refl
 bit-back false = refl
 
 -- WHAT MARKS TELL: the event's, and then those of its signals
-event-told : (k : Kind) (c p : ℕ) (n : Num) (a : Arrived) (h : List Mark) → Of k c a → (takes (brought k) ≡ true → not (none forgets h) ≡ true) →
+event-told : (k : Kind) (c p : ℕ) (n : Num) (a : Arrived) (h : List Mark) → Of k c a → (takes (brought k) ≡ true → not (none newConnection h) ≡ true) →
     bsnt (accepted c p n a ∷ h) ≡ held (brought k) n (bsnt h)
 unfolding bsnt
-event-told quiet c p n a h e u = let (_, (_, (_, (e₁₇, (_, (_, (_, (_, (e₂₀, _))))))))) = each (counting c) e in simp (e₁₇, e₂₀)
+event-told quiet c p n a h e u = let (_, (_, (_, (e₁₇, (e₁₈, (_, (_, (_, (e₂₀, _))))))))) = each (counting c) e in simp (e₁₇, e₁₈, e₂₀)
 event-told stops c p n a h e u = rw e
 event-told confirms c p n a h e u = rw e
 event-told releases c p n a h e u = rw e
-event-told hears c p n a h e u = rw (e .0, u refl)
+event-told hears c p n a h e u = simp (e .0, e .1, u refl)
 event-told receives c p n a h e u = rw (e .0, u refl)
 event-told (wishes Ups.Emergency) c p n a h e u = rw e
 event-told (wishes Ups.Normal) c p n a h e u = rw e
@@ -132,9 +134,9 @@ abbrev BsntIs : ℕ → Link → List Mark → Type 0
 BsntIs n1 l h = bsnt h ≡ l .bsnt
 
 -- where there is a connection, one came up
-came-up : (n1 c1 : ℕ) (h : List Mark) (x : Now) → NowIs n1 x c1 h → connected x ≡ true → not (none forgets h) ≡ true
+came-up : (n1 c1 : ℕ) (h : List Mark) (x : Now) → NowIs n1 x c1 h → connected x ≡ true → not (none newConnection h) ≡ true
 came-up n1 c1 h down i e = absurd (false≢true e)
-came-up n1 c1 h (on a g z) i e = let u = connection h (i .0) .up in rw (u .whole) (not-none forgets (u .mark) (u .earlier) (u .passes) (u .later))
+came-up n1 c1 h (on a g z) i e = let u = connection h (i .0) .up in rw (u .whole) (not-none newConnection (u .mark) (u .earlier) (u .passes) (u .later))
 
 -- the number that a cell sees is the event's
 data-kind : (k : Kind) (c : ℕ) (a : Arrived) → Of k c a → takes (brought k) ≡ true → c ≡ DATA-indication
@@ -176,13 +178,17 @@ module _ (n1 : ℕ) (l : Link) (h : List Mark) (v : Inv n1 l h) (is : bsnt h ≡
       let told = signals acts in
       let o = brought kind in
       let r = summary (heading (seen .0) .arrives ++ acts) still in
-      let up : takes o ≡ true → not (none forgets h) ≡ true = λ x. came-up n1 (l .c1) h (now (l .state) (l .ins)) (v .now-is) (implied (takes o) (connected (now (l .state) (l .ins))) (left (not (takes o) || connected (now (l .state) (l .ins))) (sameOp bit (tells kind told) (r .bsnt)) i) x) in
-      let number : takes o ≡ true → seen .2 ≡ numberAt e = λ x. number-seen (codeAt e) (paramAt e) (numberAt e) (lengthAt e) (arrived (messageOf e)) c1 (data-kind kind (codeAt e) (arrived (messageOf e)) (t .mark) x) in
+      let there = now (l .state) (l .ins) in
+      let on-one = not (takes o) || connected there in
+      let so = sameOp bit (tells kind told) (r .bsnt) in
+      let a = arrived (messageOf e) in
+      let up : takes o ≡ true → not (none newConnection h) ≡ true = λ x. came-up n1 (l .c1) h there (v .now-is) (implied (takes o) (connected there) (left on-one so i) x) in
+      let number : takes o ≡ true → seen .2 ≡ numberAt e = λ x. number-seen (codeAt e) (paramAt e) (numberAt e) (lengthAt e) a c1 (data-kind kind (codeAt e) a (t .mark) x) in
       rw (twice (linkAt e) (messageOf e) (signalOf (seen .1) (seen .2) (l .mps) (l .ups) (l .bsnt .num)) told)
       (signals-told (linkAt e) (messageOf e) (seen .1) (seen .2) (l .mps) (l .ups) (l .bsnt .num) told (eventMark e ∷ h)
-      ∙ ap (cond (responds told) not-retrievable) (event-told kind (codeAt e) (paramAt e) (numberAt e) (arrived (messageOf e)) h (t .mark) up ∙ seen-so o (numberAt e) (seen .2) (bsnt h) number)
+      ∙ ap (cond (responds told) not-retrievable) (event-told kind (codeAt e) (paramAt e) (numberAt e) a h (t .mark) up ∙ seen-so o (numberAt e) (seen .2) (bsnt h) number)
       ∙ told-so (responds told) o (seen .2) (bsnt h)
-      ∙ ap (λ (x : Op Bool). held x (seen .2) (bsnt h)) (same-op bit (λ n. eqb n 1) bit-back (tells kind told) (r .bsnt) (right (not (takes o) || connected (now (l .state) (l .ins))) (sameOp bit (tells kind told) (r .bsnt)) i))
+      ∙ ap (λ (x : Op Bool). held x (seen .2) (bsnt h)) (same-op bit (λ n. eqb n 1) bit-back (tells kind told) (r .bsnt) (right on-one so i))
       ∙ ap (held (r .bsnt) (seen .2)) is)
 
 -- beside what a link's record says of its history otherwise
@@ -216,13 +222,38 @@ KeptBsnt w k = Kept Remembered (w .n1) (recordAt (w .table) k) (history w k)
 recorded : (w : World) (k : ℕ) → KeptBsnt w k → linkIn w k .bsnt ≡ bsnt (history w k)
 recorded w k v = ap (λ (r : List ℕ). linkOf r .bsnt) (v .octets) ∙ ap (λ (l : Link). l .bsnt) (unpacked (v .link)) ∙ sym (v .inv .bsnt-is)
 
+-- BSNT in octets
+abbrev inOctets : Bsnt → List ℕ
+inOctets b = bit (b .known) ∷ b .num .a ∷ b .num .b ∷ b .num .c ∷ []
+
+octets-of : (w : World) (k : ℕ) → KeptBsnt w k → bsntOctets w k ≡ inOctets (bsnt (history w k))
+unfolding octetsOf
+octets-of w k v = ap (λ (r : List ℕ). take 4 (drop 7 r)) (v .octets) ∙ ap inOctets (sym (v .inv .bsnt-is))
+
+same-number : (known : Bool) (m n : Num) → inOctets record { known = known; num = m } ≡ inOctets (taken n) → record { known = known; num = m } ≡ taken n
+same-number true m n e = ap (λ (r : List ℕ). taken record { a = at r 1; b = at r 2; c = at r 3 }) e
+same-number false m n e = absurd (omega (arith, ap (λ (r : List ℕ). at r 0) e))
+
+told-or-none : (h : List Mark) → (inOctets (bsnt h) ≡ inOctets not-retrievable) ↔ ((n : Num) → Latest h n → ⊥)
+told-or-none h = (
+  λ e n l. omega (arith, ap (λ (r : List ℕ). at r 0) (sym (ap inOctets (latest-tested h n .0 l)) ∙ e)),
+  λ f. by f (bsnt h .known) refl,
+) where
+  by : ((n : Num) → Latest h n → ⊥) → (known : Bool) → bsnt h .known ≡ known → inOctets (bsnt h) ≡ inOctets not-retrievable
+  by f true e = absurd (f (bsnt h .num) (latest-tested h (bsnt h .num) .1 (λ i. record { known = e i; num = bsnt h .num })))
+  by f false e = ap inOctets (none-told h e)
+
 pub record-bsnt : RecordBsnt
 record-bsnt =
-    after-each-call Remembered remembered (λ w k. (n : Num) → (linkIn w k .bsnt ≡ taken n) ↔ Latest (history w k) n)
-    (λ w k v n.
-    let is = recorded w k v in
-    let t = latest-tested (history w k) n in
-    (λ e. t .1 (sym is ∙ e), λ l. is ∙ t .0 l))
+    record {
+      number = after-each-call Remembered remembered (λ w k. (n : Num) → (bsntOctets w k ≡ 1 ∷ n .a ∷ n .b ∷ n .c ∷ []) ↔ Latest (history w k) n)
+          (λ w k v n.
+          let is = octets-of w k v in
+          let t = latest-tested (history w k) n in
+          (λ e. t .1 (let b = bsnt (history w k) in same-number (b .known) (b .num) n (sym is ∙ e)), λ l. is ∙ ap inOctets (t .0 l)));
+      none = after-each-call Remembered remembered (λ w k. (bsntOctets w k ≡ 0 ∷ 0 ∷ 0 ∷ 0 ∷ []) ↔ ((n : Num) → Latest (history w k) n → ⊥))
+          (λ w k v. let is = octets-of w k v in let t = told-or-none (history w k) in (λ e. t .0 (sym is ∙ e), λ f. is ∙ t .1 f));
+    }
 
 -- THE CALL. What RETRIEVE_BSNT is answered, where it is.
 retrieving : (s : State) (known : Bool) (n : Num) (l : Link) {next : Link} {said : List Signal} →

@@ -4,6 +4,7 @@ use mathlib.Core.Path.{_≡_}
 use mathlib.Core.Logic.{_↔_}
 use mathlib.Core.Bool.{Bool, true, cond}
 use mathlib.Core.List.{List, [], _∷_}
+use lib.ListN.{take, drop}
 use Rattle.table6.specs.EventCodes.{RETRIEVE-BSNT, DATA-indication}
 use Rattle.table6.specs.SignalCodes.{BSNT, BSNT-NOT-RETRIEVABLE}
 use Rattle.table6.specs.Words.{1/1/1, 1/4/1}
@@ -11,12 +12,11 @@ use Rattle.link.specs.declared.Num.{Num}
 use Rattle.link.specs.declared.Bsnt.{Bsnt}
 use Rattle.link.specs.declared.Carries.{Carries}
 use Rattle.link.specs.declared.Signal.{Signal}
-use Rattle.link.specs.Effect.{taken}
 use Rattle.link.specs.Signal as link
 use Rattle.link.specs.Signal.{bare}
 use Rattle.event.specs.Frame.{linkAt, codeAt}
 use Rattle.signal.specs.SignalRecord.{signalOctets}
-use Rattle.sscf.specs.Step.{stepCall}
+use Rattle.sscf.specs.Step.{recordAt, stepCall}
 use Rattle.history.specs.Calls.{signalsIn, World, AfterEachCall}
 use Rattle.history.specs.History.{Mark, accepted, emitted, event, comesUp, Somewhere, none, history}
 use Rattle.history.specs.Pics.{_⇒_, linkIn, Brings, plain}
@@ -29,14 +29,14 @@ abbrev pub numberOf : Mark → Num
 numberOf (accepted code param n holds) = n
 numberOf (emitted code holds) = link.none
 
--- "BSNT becomes not retrievable each time a connection comes up": at these marks and no other. "It still survives a release."
-abbrev pub forgets : Mark → Bool
-forgets m = comesUp m
+-- "A connection comes up", as in demand 3.
+abbrev pub newConnection : Mark → Bool
+newConnection m = comesUp m
 
 -- "Its latest connection came up": no other has come up since, and whether it has been released is not asked.
 pub record LatestUp (h : List Mark) : Type 0 where
-  pub up : Somewhere forgets h
-  pub latest : none forgets (up .later) ≡ true
+  pub up : Somewhere newConnection h
+  pub latest : none newConnection (up .later) ≡ true
 
 -- "The number of the latest DATA accepted since its latest connection came up."
 pub record Latest (h : List Mark) (n : Num) : Type 0 where
@@ -67,9 +67,14 @@ pub record RetrieveBsnt : Type 0 where
   -- "and BSNT_NOT_RETRIEVABLE exactly if there was none."
   pub none : AfterEachCall (λ w k. (e o : List ℕ) → Asked w k e o → Answers w k e o not-retrieved ↔ ((n : Num) → Latest (history w k) n → ⊥))
 
--- What a host may read off a link's record, in every state: BSNT is known, with a number, exactly if that is this number.
-abbrev pub RecordBsnt : Type 0
-RecordBsnt = AfterEachCall (λ w k. (n : Num) → (linkIn w k .bsnt ≡ taken n) ↔ Latest (history w k) n)
+-- What a host may read off octets 7 to 10 of a link's record, in every state: 1 and a number exactly if that is this number, and four times 0 exactly if there
+-- was none.
+abbrev pub bsntOctets : World → ℕ → List ℕ
+bsntOctets w k = take 4 (drop 7 (recordAt (w .table) k))
+
+pub record RecordBsnt : Type 0 where
+  pub number : AfterEachCall (λ w k. (n : Num) → (bsntOctets w k ≡ 1 ∷ n .a ∷ n .b ∷ n .c ∷ []) ↔ Latest (history w k) n)
+  pub none : AfterEachCall (λ w k. (bsntOctets w k ≡ 0 ∷ 0 ∷ 0 ∷ 0 ∷ []) ↔ ((n : Num) → Latest (history w k) n → ⊥))
 
 -- In both states that take RETRIEVE_BSNT it is accepted, answers what the record holds, and leaves the state.
 abbrev pub answer : Bsnt → Signal

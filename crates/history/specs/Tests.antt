@@ -10,7 +10,7 @@ use Rattle.link.specs.declared.Num.{Num}
 use Rattle.link.specs.declared.Bsnt.{Bsnt}
 use Rattle.link.specs.Effect.{taken, not-retrievable}
 use Rattle.history.specs.History.{Mark, comesUp, edge, provingSent, insSent, insReceived, inService, turn, none, count, decided, Stands, Served}
-use Rattle.history.specs.Bsnt.{dataAccepted, numberOf, forgets, Latest}
+use Rattle.history.specs.Bsnt.{dataAccepted, numberOf, newConnection, Latest}
 
 -- The marks after the latest that passes a test; it and those before it.
 abbrev pub after : (Mark → Bool) → List Mark → List Mark
@@ -60,7 +60,7 @@ ServedTested = (n1 : ℕ) (h : List Mark) → Served n1 h ↔ (served n1 h ≡ t
 -- the number of the latest DATA since the latest connection came up, where one did
 unfoldable pub bsnt : List Mark → Bsnt
 bsnt [] = not-retrievable
-bsnt (m ∷ h) = cond (forgets m) not-retrievable (cond (dataAccepted m && not (none forgets h)) (taken (numberOf m)) (bsnt h))
+bsnt (m ∷ h) = cond (newConnection m) not-retrievable (cond (dataAccepted m && not (none newConnection h)) (taken (numberOf m)) (bsnt h))
 
 abbrev pub LatestTested : Type 0
 LatestTested = (h : List Mark) (n : Num) → Latest h n ↔ (bsnt h ≡ taken n)

@@ -27,7 +27,7 @@ pub struct Num {
     pub c: u8,
 }
 
-// The number of the latest data indication since a connection came up. Where none is known it is not retrievable, and 0.
+// The number of the latest data indication since the latest connection came up. Where none is known it is not retrievable, and 0.
 pub struct Bsnt {
     pub known: bool,
     pub num: Num,
