@@ -32,7 +32,7 @@ struct call {
 static struct call call;
 
 static unsigned long calls, into_service, out_of_service;
-static unsigned long forgotten[2]; /* a known BSNT, by ESTABLISH_CONFIRM and by ESTABLISH_INDICATION */
+static unsigned long forgotten[3]; /* a known BSNT: by ESTABLISH_CONFIRM, by ESTABLISH_INDICATION, by anything else */
 static unsigned long retrieved[2]; /* RETRIEVE_BSNT answered, without a number and with one */
 static unsigned long step_refusals[10], fresh_refusals[10];
 
@@ -138,7 +138,7 @@ static void count_service(const uint8_t *before, const uint8_t *after)
 static void count_bsnt(unsigned code, const uint8_t *before, const uint8_t *after)
 {
     if (before[SSCF_LINK_AT_BSNT_KNOWN] == 1 && after[SSCF_LINK_AT_BSNT_KNOWN] == 0)
-        forgotten[code == SSCF_EVENT_ESTABLISH_INDICATION]++;
+        forgotten[code == SSCF_EVENT_ESTABLISH_CONFIRM ? 0 : code == SSCF_EVENT_ESTABLISH_INDICATION ? 1 : 2]++;
     if (code == SSCF_EVENT_RETRIEVE_BSNT)
         retrieved[library.out[SSCF_HEAD_AT_CODE] == SSCF_SIGNAL_BSNT]++;
 }
@@ -804,17 +804,18 @@ int main(int argc, char **argv)
     every_fresh_length();
     printf("checks: %lu calls\n", calls - before);
     before = calls;
+    failed = forgotten[2] != 0;
     into_service = out_of_service = forgotten[0] = forgotten[1] = retrieved[0] = retrieved[1] = 0;
     histories(random_calls);
     printf("histories: %lu calls, links into service %lu times, out of it %lu times\n", calls - before,
            into_service, out_of_service);
     printf("BSNT: forgotten %lu times by a confirm, %lu times by a response; retrieved %lu times, %lu times not\n",
            forgotten[0], forgotten[1], retrieved[1], retrieved[0]);
-    failed = never_seen("step", step_refusals, 0x3FF);
+    failed |= never_seen("step", step_refusals, 0x3FF);
     failed |= never_seen("fresh", fresh_refusals,
                          1 << SSCF_ACCEPTED | 1 << SSCF_REFUSED_TABLE | 1 << SSCF_REFUSED_FIELD);
     failed |= into_service == 0 || out_of_service == 0;
-    failed |= forgotten[0] == 0 || forgotten[1] == 0 || retrieved[0] == 0 || retrieved[1] == 0;
+    failed |= forgotten[0] == 0 || forgotten[1] == 0 || forgotten[2] != 0 || retrieved[0] == 0 || retrieved[1] == 0;
     printf("compare: %lu calls, 0 differences\n", calls);
     return failed;
 }
