@@ -44,7 +44,8 @@
  *
  * It is never in service too early. Take a table that sscf_fresh made and that nothing but the two
  * calls has written into since; each was lent the whole table, as its table, and no call had any of
- * it as room for output. After every sequence of such calls this is proved: a link is in service
+ * it as room for output. Where sscf_fresh makes it anew, all that was seen of it before counts no
+ * more. After every sequence of such calls this is proved: a link is in service
  * exactly if its present connection came up and has not been released by either end or by SSCOP, as
  * many proving units as Q.2140's Table 7 decided for that connection were sent on it, its INS unit
  * was sent after them, and the peer's INS unit was received on that same connection. All of it held
@@ -52,12 +53,13 @@
  * the connection came up, these are n1 units; where it had forced emergency (FORCE_EMERGENCY), none
  * is ever sent.
  *
- * Nor does a changeover get a number from an earlier connection. After every such sequence of calls
- * this is proved: where RETRIEVE_BSNT is accepted, it is answered by BSNT with the number of the
- * latest DATA that was accepted since the link's latest connection came up, whether or not that
- * connection has been released since, and by BSNT_NOT_RETRIEVABLE exactly if there was none. A
- * connection comes up when ESTABLISH_CONFIRM is accepted, whatever its field, or when
- * ESTABLISH_RESPONSE is given.
+ * Nor does a number for a changeover outlive the next connection that comes up. After every such
+ * sequence of calls this is proved: where RETRIEVE_BSNT is accepted, it is answered by BSNT with
+ * the number of the latest DATA that was accepted since the link's latest connection came up,
+ * whether or not that connection has been released since, and by BSNT_NOT_RETRIEVABLE exactly if
+ * there was none. A connection comes up when ESTABLISH_CONFIRM is accepted, whatever its field, or
+ * when ESTABLISH_RESPONSE is given; one that was only asked for, or that was turned down in state 1
+ * or 3, does not, and leaves the number as it was.
  *
  * A FIRST USE
  *
@@ -134,6 +136,9 @@
 extern "C" {
 #endif
 
+/* Up to 0.2.0 a number of BSNT was kept through later connections too. A table that such a version
+ * has written is taken as it is: there BSNT may be older than the latest connection, until the next
+ * DATA or the next one comes up. */
 #define SSCF_VERSION "0.3.0"
 #define SSCF_VERSION_NUMBER 3000 /* 1,000,000 x 0 + 1,000 x 3 + 0 */
 
@@ -163,10 +168,10 @@ extern "C" {
  *      5      UPS, what the user wishes, SSCF_UPS_...
  *      6      the timers running, a sum of SSCF_TIMER_...
  *      7      1 if BSNT is known, else 0
- *      8-10   BSNT, the number of the latest DATA accepted since the link's latest connection came
- *             up, whatever became of it (a unit, or one that was dropped or a protocol error,
- *             counts too); kept until the next DATA or the next connection that comes up, also
- *             over a release; 0 where not known
+ *      8-10   BSNT, 0 where not known: the number of the latest DATA accepted since the link's
+ *             latest connection came up. All DATA counts, units, and what was dropped or was a
+ *             protocol error, too. It is kept until the next DATA or the next connection that
+ *             comes up; a release, RESYNC, RECOVER and START leave it
  *      11     0
  *      12-13  C1, the proving units still to be sent
  *      14-15  n1, the proving units of normal proving, at least 1
@@ -275,8 +280,8 @@ enum sscf_status {
  *
  * The user starts a link (START) and stops it (STOP), asks for proving to be left out (EMERGENCY)
  * or no longer so (EMERGENCY_CEASES), and sends. For a changeover it asks, out of service, for the
- * number of the latest DATA that was accepted on the link's latest connection (RETRIEVE_BSNT), and
- * for those of its own messages that the peer has not accepted, FSNC being the last it has
+ * number of the latest DATA on the latest connection that came up (RETRIEVE_BSNT), and for those of
+ * its own messages that the peer has not accepted, FSNC being the last it has
  * (RETRIEVAL_REQUEST_AND_FSNC).
  */
 enum sscf_event {
@@ -521,9 +526,10 @@ uint32_t sscf_version(void);
  * The number is one and the same by three names: the FSN of the last message accepted, the BSNT of
  * the end that sends it, the FSNC of the end that gets it. When to send which:
  *
- * - A link is out of service, states 1 and 2, by OUT_OF_SERVICE or by a STOP of the user's own, and
- *   its traffic is to go another way. Hand in RETRIEVE_BSNT. The number of BSNT goes into an XCO,
- *   with the SLC of that link, the point code of its far end as DPC and that of this end as OPC.
+ * - A link that was in service is out of service, states 1 and 2, by OUT_OF_SERVICE or by a STOP of
+ *   the user's own, and its traffic is to go another way. Hand in RETRIEVE_BSNT. The number of BSNT
+ *   goes into an XCO, with the SLC of that link, the point code of its far end as DPC and that of
+ *   this end as OPC.
  * - The XCA that comes back has the far end as its OPC. Hand its number in as the FSNC of
  *   RETRIEVAL_REQUEST_AND_FSNC. SSCOP gives back what it was to send after the message with that
  *   number; all that then comes as RETRIEVED_MESSAGES, until RETRIEVAL_COMPLETE, is sent again, in
@@ -533,12 +539,14 @@ uint32_t sscf_version(void);
  *   counted. Then RETRIEVE_BSNT, an XCA with that number, DPC and OPC exchanged, and the XCO's own
  *   number as FSNC. Where two orders cross, each brings what the acknowledgement would: the number
  *   is handed in once.
- * - START waits until all this is over: from state 3 on RETRIEVE_BSNT and the FSNC are refused.
- * - After BSNT_NOT_RETRIEVABLE there is no number to send: nothing was received on the link's
- *   latest connection, and the number of an earlier one is given no more. A link that was in
- *   service on its latest connection has received the peer's INS unit on it, and has a number.
- *   Q.704 has an emergency changeover for an end without one. It is not written here, and there is
- *   no FSNC for "unknown".
+ * - START waits until all this is over: from state 3 on RETRIEVE_BSNT and the FSNC are refused, and
+ *   the first connection that comes up after it takes the number away for good. Until then nothing
+ *   but sscf_fresh does. An order that comes about the connection before finds no number of it
+ *   then: what is answered is the later connection's, or none.
+ * - After BSNT_NOT_RETRIEVABLE there is no number to send: no DATA was accepted since the latest
+ *   connection came up, or none ever came up. A link that was in service has received the peer's
+ *   INS unit, and has a number until the next connection comes up. Q.704 has an emergency
+ *   changeover for an end without one. It is not written here, and there is no FSNC for "unknown".
  *
  * How long to wait for an XCA, and whether a number can be right, is level 3's to know.
  *
