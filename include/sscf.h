@@ -138,7 +138,7 @@ extern "C" {
 
 /* Up to 0.2.0 a number of BSNT was kept through later connections too. A table that such a version
  * has written is taken as it is: there BSNT may be older than the latest connection, until the next
- * DATA or the next one comes up. */
+ * DATA is accepted or the next connection comes up. */
 #define SSCF_VERSION "0.3.0"
 #define SSCF_VERSION_NUMBER 3000 /* 1,000,000 x 0 + 1,000 x 3 + 0 */
 
