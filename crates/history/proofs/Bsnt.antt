@@ -49,7 +49,7 @@ use Rattle.history.specs.Pics.{_⇒_, linkIn, plain}
 use Rattle.history.specs.Bsnt.{newConnection, Latest, Asked, Answers, retrieved, not-retrieved, RetrieveBsnt, bsntOctets, RecordBsnt, answer, Retrieves}
 use Rattle.history.specs.Tests.{bsnt}
 use Rattle.history.proofs.Tested.{connection, not-none}
-use Rattle.history.proofs.Latest.{latest-tested, none-told}
+use Rattle.history.proofs.Latest.{shows-number, shows-none}
 use Rattle.history.proofs.Lawful.{implied}
 use Rattle.history.proofs.Walk.{Kind, quiet, stops, confirms, releases, hears, receives, wishes, forces, Of, counting, each}
 use Rattle.history.proofs.Table.{Now, down, on, now, sortAt, sameOp, Test, Passes, choice-ok}
@@ -163,10 +163,10 @@ told-so : (r : Bool) (o : Op Bool) (n : Num) (b : Bsnt) → cond r not-retrievab
 told-so true o n b = refl
 told-so false o n b = refl
 
-module _ (n1 : ℕ) (l : Link) (h : List Mark) (v : Inv n1 l h) (is : bsnt h ≡ l .bsnt) (e : List ℕ) (c1 : ℕ)
-    (t : Told (sortAt (viewOf (eventOf e) c1 .0)) (codeAt e) (paramAt e) (arrived (messageOf e)) (l .c1) (viewOf (eventOf e) c1 .1)) where
+module _ (n1 : ℕ) (l : Link) (h : List Mark) (v : Inv n1 l h) (is : bsnt h ≡ l .bsnt) (e : List ℕ)
+    (t : Told (sortAt (viewOf (eventOf e) (l .c1) .0)) (codeAt e) (paramAt e) (arrived (messageOf e)) (l .c1) (viewOf (eventOf e) (l .c1) .1)) where
   abbrev seen : View
-  seen = viewOf (eventOf e) c1
+  seen = viewOf (eventOf e) (l .c1)
 
   abbrev kind : Kind
   kind = sortAt (seen .0) .mark
@@ -183,7 +183,7 @@ module _ (n1 : ℕ) (l : Link) (h : List Mark) (v : Inv n1 l h) (is : bsnt h ≡
       let so = sameOp bit (tells kind told) (r .bsnt) in
       let a = arrived (messageOf e) in
       let up : takes o ≡ true → not (none newConnection h) ≡ true = λ x. came-up n1 (l .c1) h there (v .now-is) (implied (takes o) (connected there) (left on-one so i) x) in
-      let number : takes o ≡ true → seen .2 ≡ numberAt e = λ x. number-seen (codeAt e) (paramAt e) (numberAt e) (lengthAt e) a c1 (data-kind kind (codeAt e) a (t .mark) x) in
+      let number : takes o ≡ true → seen .2 ≡ numberAt e = λ x. number-seen (codeAt e) (paramAt e) (numberAt e) (lengthAt e) a (l .c1) (data-kind kind (codeAt e) a (t .mark) x) in
       rw (twice (linkAt e) (messageOf e) (signalOf (seen .1) (seen .2) (l .mps) (l .ups) (l .bsnt .num)) told)
       (signals-told (linkAt e) (messageOf e) (seen .1) (seen .2) (l .mps) (l .ups) (l .bsnt .num) told (eventMark e ∷ h)
       ∙ ap (cond (responds told) not-retrievable) (event-told kind (codeAt e) (paramAt e) (numberAt e) a h (t .mark) up ∙ seen-so o (numberAt e) (seen .2) (bsnt h) number)
@@ -200,19 +200,19 @@ together : (n1 : ℕ) (h : List Mark) (e : List ℕ) (o : Outcome) → Keeps Inv
 together n1 h e Illegal v b = tt
 together n1 h e (Legal next said) v b = record { inv = v; bsnt-is = b }
 
-begins : (n1 : ℕ) → bsnt [] ≡ not-retrievable
+at-first : bsnt [] ≡ not-retrievable
 unfolding bsnt
-begins n1 = refl
+at-first = refl
 
 remembered : Invariant Remembered
 remembered =
     record {
-      begins = λ n1. record { inv = keeps-inv .begins n1; bsnt-is = begins n1 };
+      begins = λ n1. record { inv = keeps-inv .begins n1; bsnt-is = at-first };
       goes-on = λ n1 l h v e p.
           let x = viewOf (eventOf e) (l .c1) in
           together n1 h e (stepOf l (eventOf e)) (keeps-inv .goes-on n1 l h (v .inv) e p)
           (by-choice (Keeps BsntIs n1 h e) l (eventOf e)
-          (chosen-ok n1 l h (v .inv) (v .bsnt-is) e (l .c1) (sorted e p (l .c1)) (choiceOf l x) (choice-ok remembers (l .state) (factsOf l x) table-remembers (x .0))));
+          (chosen-ok n1 l h (v .inv) (v .bsnt-is) e (sorted e p (l .c1)) (choiceOf l x) (choice-ok remembers (l .state) (factsOf l x) table-remembers (x .0))));
     }
 
 -- THE RECORD
@@ -230,29 +230,19 @@ octets-of : (w : World) (k : ℕ) → KeptBsnt w k → bsntOctets w k ≡ inOcte
 unfolding octetsOf
 octets-of w k v = ap (λ (r : List ℕ). take 4 (drop 7 r)) (v .octets) ∙ ap inOctets (sym (v .inv .bsnt-is))
 
-same-number : (known : Bool) (m n : Num) → inOctets record { known = known; num = m } ≡ inOctets (taken n) → record { known = known; num = m } ≡ taken n
-same-number true m n e = ap (λ (r : List ℕ). taken record { a = at r 1; b = at r 2; c = at r 3 }) e
-same-number false m n e = absurd (omega (arith, ap (λ (r : List ℕ). at r 0) e))
-
-told-or-none : (h : List Mark) → (inOctets (bsnt h) ≡ inOctets not-retrievable) ↔ ((n : Num) → Latest h n → ⊥)
-told-or-none h = (
-  λ e n l. omega (arith, ap (λ (r : List ℕ). at r 0) (sym (ap inOctets (latest-tested h n .0 l)) ∙ e)),
-  λ f. by f (bsnt h .known) refl,
-) where
-  by : ((n : Num) → Latest h n → ⊥) → (known : Bool) → bsnt h .known ≡ known → inOctets (bsnt h) ≡ inOctets not-retrievable
-  by f true e = absurd (f (bsnt h .num) (latest-tested h (bsnt h .num) .1 (λ i. record { known = e i; num = bsnt h .num })))
-  by f false e = ap inOctets (none-told h e)
+same-octets : (b : Bsnt) (n : Num) → inOctets b ≡ inOctets (taken n) → b ≡ taken n
+same-octets b = by (b .known) (b .num) where
+  by : (known : Bool) (m n : Num) → inOctets record { known = known; num = m } ≡ inOctets (taken n) → record { known = known; num = m } ≡ taken n
+  by true m n e = ap (λ (r : List ℕ). taken record { a = at r 1; b = at r 2; c = at r 3 }) e
+  by false m n e = absurd (omega (arith, ap (λ (r : List ℕ). at r 0) e))
 
 pub record-bsnt : RecordBsnt
 record-bsnt =
     record {
       number = after-each-call Remembered remembered (λ w k. (n : Num) → (bsntOctets w k ≡ 1 ∷ n .a ∷ n .b ∷ n .c ∷ []) ↔ Latest (history w k) n)
-          (λ w k v n.
-          let is = octets-of w k v in
-          let t = latest-tested (history w k) n in
-          (λ e. t .1 (let b = bsnt (history w k) in same-number (b .known) (b .num) n (sym is ∙ e)), λ l. is ∙ ap inOctets (t .0 l)));
+          (λ w k v n. shows-number inOctets same-octets (history w k) (bsntOctets w k) (octets-of w k v) n);
       none = after-each-call Remembered remembered (λ w k. (bsntOctets w k ≡ 0 ∷ 0 ∷ 0 ∷ 0 ∷ []) ↔ ((n : Num) → Latest (history w k) n → ⊥))
-          (λ w k v. let is = octets-of w k v in let t = told-or-none (history w k) in (λ e. t .0 (sym is ∙ e), λ f. is ∙ t .1 f));
+          (λ w k v. shows-none inOctets same-octets (history w k) (bsntOctets w k) (octets-of w k v));
     }
 
 -- THE CALL. What RETRIEVE_BSNT is answered, where it is.
@@ -274,57 +264,41 @@ asked-for : (c p : ℕ) (n : Num) (len : ℕ) (a : Arrived) → c ≡ RETRIEVE-B
 unfolding codedAt
 asked-for c p n len a e = rw e
 
+-- the answer as the one record of the output
+abbrev inOutput : ℕ → Bsnt → List (List ℕ)
+inOutput k b = signalOctets k [] (answer b) ∷ []
+
+-- it carries no message
 bare-so : (b : Bool) (n : Num) (k : ℕ) (m : List ℕ) → signalOctets k m (answer record { known = b; num = n }) ≡ signalOctets k [] (answer record { known = b; num = n })
 bare-so true n k m = refl
 bare-so false n k m = refl
 
-module _ (w : World) (k : ℕ) (e o : List ℕ) (a : Asked w k e o) where
-  abbrev bsntIn : Bsnt
-  bsntIn = linkIn w k .bsnt
-
-  answers : Answers w k e o (answer bsntIn)
-  answers =
-      let x = accepted-written (w .table) e o (a .refusal) in
-      let l = linkIn w k in
-      let gives : stepOf l event.RetrieveBsnt ≡ Legal (x .next) (x .signals) =
-      sym (ap (stepOf l) (asked-for (codeAt e) (paramAt e) (numberAt e) (lengthAt e) (arrived (messageOf e)) (a .code))) ∙ sym (ap (λ (j : ℕ). stepOf (linkIn w j) (eventOf e)) (a .link)) ∙ x .gives in
-      emitted-ones (w .table) e (stepCall (w .table) e o) x
-      ∙ ap (map (signalOctets (linkAt e) (messageOf e))) (retrieving (l .state) (bsntIn .known) (bsntIn .num) l gives)
-      ∙ ap (λ (r : List ℕ). r ∷ []) (ap (λ (j : ℕ). signalOctets j (messageOf e) (answer bsntIn)) (a .link) ∙ bare-so (bsntIn .known) (bsntIn .num) k (messageOf e))
+answers : (w : World) (k : ℕ) (e o : List ℕ) → Asked w k e o → Answers w k e o (answer (linkIn w k .bsnt))
+answers w k e o a =
+    let x = accepted-written (w .table) e o (a .refusal) in
+    let l = linkIn w k in
+    let b = l .bsnt in
+    let gives : stepOf l event.RetrieveBsnt ≡ Legal (x .next) (x .signals) =
+    sym (ap (stepOf l) (asked-for (codeAt e) (paramAt e) (numberAt e) (lengthAt e) (arrived (messageOf e)) (a .code))) ∙ sym (ap (λ (j : ℕ). stepOf (linkIn w j) (eventOf e)) (a .link)) ∙ x .gives in
+    emitted-ones (w .table) e (stepCall (w .table) e o) x
+    ∙ ap (map (signalOctets (linkAt e) (messageOf e))) (retrieving (l .state) (b .known) (b .num) l gives)
+    ∙ ap (λ (r : List ℕ). r ∷ []) (ap (λ (j : ℕ). signalOctets j (messageOf e) (answer b)) (a .link) ∙ bare-so (b .known) (b .num) k (messageOf e))
 
 -- the two answers are told apart by their codes, and two numbers by their octets
-number-told : (known : Bool) (m n : Num) (k : ℕ) → signalOctets k [] (answer record { known = known; num = m }) ≡ signalOctets k [] (retrieved n) → record { known = known; num = m } ≡ taken n
+same-output : (k : ℕ) (b : Bsnt) (n : Num) → inOutput k b ≡ inOutput k (taken n) → b ≡ taken n
 unfolding written
-number-told true m n k e = ap taken (ap numberAt e)
-number-told false m n k e = absurd (omega (arith, ap codeAt e))
-
-never-both : (n : Num) (k : ℕ) → signalOctets k [] (retrieved n) ≡ signalOctets k [] not-retrieved → ⊥
-unfolding written
-never-both n k e = omega (arith, ap codeAt e)
-
-only : {r s : List ℕ} → r ∷ [] ≡ s ∷ [] → r ≡ s
-only e = cc
-
-module _ (w : World) (k : ℕ) (e o : List ℕ) (a : Asked w k e o) (h : List Mark) (is : linkIn w k .bsnt ≡ bsnt h) where
-  number-so : (n : Num) → Answers w k e o (retrieved n) ↔ Latest h n
-  number-so n =
-      let b = linkIn w k .bsnt in
-      let t = latest-tested h n in
-      (λ x. t .1 (sym is ∙ number-told (b .known) (b .num) n k (only (sym (answers w k e o a) ∙ x))), λ l. answers w k e o a ∙ ap (λ (b : Bsnt). signalOctets k [] (answer b) ∷ []) (is ∙ t .0 l))
-
-  none-so : Answers w k e o not-retrieved ↔ ((n : Num) → Latest h n → ⊥)
-  none-so = (λ x n l. never-both n k (only (sym (number-so n .1 l) ∙ x)), λ f. by (linkIn w k .bsnt .known) (linkIn w k .bsnt .num) f is (answers w k e o a)) where
-    by : (known : Bool) (n : Num) → ((n : Num) → Latest h n → ⊥) → record { known = known; num = n } ≡ bsnt h → Answers w k e o (answer record { known = known; num = n }) → Answers w k e o not-retrieved
-    by true n f i x = absurd (f n (latest-tested h n .1 (sym i)))
-    by false n f i x = x
+same-output k b n e = by (b .known) (b .num) n (cc e) where
+  by : (known : Bool) (m n : Num) → signalOctets k [] (answer record { known = known; num = m }) ≡ signalOctets k [] (retrieved n) → record { known = known; num = m } ≡ taken n
+  by true m n e = ap taken (ap numberAt e)
+  by false m n e = absurd (omega (arith, ap codeAt e))
 
 pub retrieve-bsnt : RetrieveBsnt
 retrieve-bsnt =
     record {
       number = after-each-call Remembered remembered (λ w k. (e o : List ℕ) → Asked w k e o → (n : Num) → Answers w k e o (retrieved n) ↔ Latest (history w k) n)
-          (λ w k v e o a n. number-so w k e o a (history w k) (recorded w k v) n);
+          (λ w k v e o a n. shows-number (inOutput k) (same-output k) (history w k) _ (answers w k e o a ∙ ap (inOutput k) (recorded w k v)) n);
       none = after-each-call Remembered remembered (λ w k. (e o : List ℕ) → Asked w k e o → Answers w k e o not-retrieved ↔ ((n : Num) → Latest (history w k) n → ⊥))
-          (λ w k v e o a. none-so w k e o a (history w k) (recorded w k v));
+          (λ w k v e o a. shows-none (inOutput k) (same-output k) (history w k) _ (answers w k e o a ∙ ap (inOutput k) (recorded w k v)));
     }
 
 -- WHERE IT IS TAKEN

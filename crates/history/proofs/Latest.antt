@@ -1,5 +1,6 @@
 -- The number that a history tells, as a test, is that of the latest DATA since the latest connection came up. Assumes nothing.
 use mathlib.Core.Path.{_≡_, refl, sym, ap, subst, _∙_}
+use mathlib.Core.Logic.{_↔_}
 use mathlib.Core.Bool.{Bool, true, false, cond, not, _&&_, false≢true, true≢false}
 use mathlib.Core.List.{List, [], _∷_, _++_, append-assoc}
 use Rattle.link.specs.declared.Num.{Num}
@@ -81,13 +82,27 @@ found (m ∷ h) n t = by (found h n) (newConnection m) (dataAccepted m) (none ne
 pub latest-tested : LatestTested
 latest-tested h n = (told h n, found h n)
 
--- where no number is told, BSNT is not retrievable
-pub none-told : (h : List Mark) → bsnt h .known ≡ false → bsnt h ≡ not-retrievable
+-- where no number is known there is none
+zero : (h : List Mark) → bsnt h .known ≡ false → bsnt h ≡ not-retrievable
 unfolding bsnt
-none-told [] e = refl
-none-told (m ∷ h) e = by (none-told h) (newConnection m) (dataAccepted m && not (none newConnection h)) e where
+zero [] e = refl
+zero (m ∷ h) e = by (zero h) (newConnection m) (dataAccepted m && not (none newConnection h)) e where
   by : (bsnt h .known ≡ false → bsnt h ≡ not-retrievable) → (c d : Bool) → cond c not-retrievable (cond d (taken (numberOf m)) (bsnt h)) .known ≡ false →
       cond c not-retrievable (cond d (taken (numberOf m)) (bsnt h)) ≡ not-retrievable
   by k true d e = refl
   by k false true e = absurd (true≢false e)
   by k false false e = k e
+
+none-told : (h : List Mark) → ((n : Num) → Latest h n → ⊥) → bsnt h ≡ not-retrievable
+none-told h f = by (bsnt h .known) refl where
+  by : (known : Bool) → bsnt h .known ≡ known → bsnt h ≡ not-retrievable
+  by true e = absurd (f (bsnt h .num) (found h (bsnt h .num) (λ i. record { known = e i; num = bsnt h .num })))
+  by false e = zero h e
+
+-- what tells one BSNT from another shows which the history tells
+module _ {A : Type 0} (f : Bsnt → A) (apart : (b : Bsnt) (n : Num) → f b ≡ f (taken n) → b ≡ taken n) (h : List Mark) (x : A) (is : x ≡ f (bsnt h)) where
+  pub shows-number : (n : Num) → (x ≡ f (taken n)) ↔ Latest h n
+  shows-number n = (λ e. found h n (apart (bsnt h) n (sym is ∙ e)), λ l. is ∙ ap f (told h n l))
+
+  pub shows-none : (x ≡ f not-retrievable) ↔ ((n : Num) → Latest h n → ⊥)
+  shows-none = (λ e n l. nothing n (apart not-retrievable n (sym e ∙ shows-number n .1 l)), λ k. is ∙ ap f (none-told h k))

@@ -38,14 +38,14 @@ use Rattle.link.specs.Step.{Meeting, meeting, facts, Outcome, Illegal, Legal, o
 use Rattle.link.specs.Twelve.{unit, report}
 use Rattle.record.specs.LinkRecord.{wellFormed, linkOf}
 use Rattle.record.proofs.LinkRecord.{unpacked}
-use Rattle.event.specs.Frame.{EV, written, linkAt, codeAt, paramAt, numberAt, lengthAt, messageOf}
-use Rattle.event.specs.EventRecord.{framed, Coded, codedAt, codedIn, eventOf, misfit}
+use Rattle.event.specs.Frame.{EV, written, linkAt, codeAt, messageOf}
+use Rattle.event.specs.EventRecord.{Coded, codedAt, eventOf, misfit}
 use Rattle.event.proofs.Frame.{two-back, frame-reread}
 use Rattle.signal.specs.SignalRecord.{signalOctets}
 use Rattle.sscf.specs.declared.checks.Refusal.{Refusal}
 use Rattle.unit.specs.Checks as checks
 use Rattle.sscf.specs.Step as call
-use Rattle.sscf.specs.Step.{badTable, records, recordAt, linkFor, unknown, idle, isIllegal, stepCall}
+use Rattle.sscf.specs.Step.{badTable, records, recordAt, linkFor, idle, isIllegal, stepCall}
 use Rattle.sscf.specs.Fresh as maker
 use Rattle.sscf.specs.Fresh.{freshChecks, freshCall}
 use Rattle.sscf.specs.Untouched.{Written}
@@ -64,7 +64,7 @@ use Rattle.history.specs.Tests.{alive}
 use Rattle.history.proofs.Tested.{alive-there}
 use Rattle.history.proofs.Table.{now}
 use Rattle.history.proofs.Step.{NowIs, Inv, keeps-inv}
-use Rattle.history.proofs.Calls.{emitted-ones, made-length, Kept, after-each-call}
+use Rattle.history.proofs.Calls.{emitted-ones, made-length, Passed, Kept, after-each-call}
 use Rattle.history.proofs.Events.{long-message}
 use Rattle.history.proofs.Timers.{timed-each}
 
@@ -79,9 +79,7 @@ pub record At (w : World) (k : ℕ) (l : Link) : Type 0 where
 
 -- octets that are an event for a link, with a code
 pub record Hands (e : List ℕ) (k c : ℕ) (x : Event) : Type 0 where
-  sound : framed e ≡ true
-  known : unknown (codedIn e) ≡ false
-  fits : misfit (codeAt e) (paramAt e) (numberAt e) (lengthAt e) ≡ false
+  passed : Passed e
   link : linkAt e ≡ k
   code : codeAt e ≡ c
   event : eventOf e ≡ x
@@ -94,7 +92,7 @@ module _ (w : World) (k c : ℕ) (l : Link) (e : List ℕ) (x : Event) (a : At w
   passes : checks.first (call.checks (w .table) e (length o)) ≡ checks.passed
   passes =
       verdict.none (call.checks (w .table) e (length o))
-      (a .good, (ap not (f .sound), (f .known, (f .fits, (lt-leb (records (w .table)) (linkAt e) (a .inside), (ap not (a .formed), (rw (a .holds, f .code) r, (ap isIllegal makes, (le-ltb (length o) 4192 wide, tt)))))))))
+      (a .good, (ap not (f .passed .sound), (f .passed .known, (f .passed .fits, (lt-leb (records (w .table)) (linkAt e) (a .inside), (ap not (a .formed), (rw (a .holds, f .code) r, (ap isIllegal makes, (le-ltb (length o) 4192 wide, tt)))))))))
 
   taken-so : stepCall (w .table) e o .answer .refusal ≡ 0
   taken-so = ap (λ (z : call.Outcome). z .answer .refusal) (step-accepted (w .table) e o passes makes)
@@ -208,7 +206,12 @@ pub hands : (k c p : ℕ) (n : Num) (m : List ℕ) {x : Event} → length m ≤ 
     Hands (written EV k c p n m) k c x
 unfolding written
 hands k c p n m h u v =
-    record { sound = frame-reread EV k c p n m h; known = rw (two-back (length m), u); fits = rw (two-back (length m)) v; link = two-back k; code = refl; event = rw (two-back (length m), u) }
+    record {
+      passed = record { sound = frame-reread EV k c p n m h; known = rw (two-back (length m), u); fits = rw (two-back (length m)) v };
+      link = two-back k;
+      code = refl;
+      event = rw (two-back (length m), u);
+    }
 
 hands-start : (k : ℕ) → Hands (plain START k) k START event.Start
 unfolding codedAt misfit
