@@ -75,7 +75,10 @@ pub fn event(e: &[u8]) -> Event
             source: e[8],
         },
         events::RELEASE_CONFIRM => Event::ReleaseConfirm,
-        events::DATA_INDICATION => Event::Data(unit::read(message(e)), number(e)),
+        events::DATA_INDICATION => {
+            let n = number(e);
+            Event::Data(unit::read(message(e)), n)
+        }
         events::RESYNC_INDICATION => Event::Resync,
         events::RECOVER_INDICATION => Event::Recover,
         events::UNITDATA_INDICATION => Event::UnitData,

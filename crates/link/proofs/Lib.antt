@@ -1,3 +1,4 @@
+pub mod Arrivals
 pub mod Expiries
 pub mod Kept
 pub mod Lent

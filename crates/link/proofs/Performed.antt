@@ -6,12 +6,11 @@ use Prim.Native.Nat.{ℕ}
 use lib.Dec.{eqb}
 use Rattle.unit.specs.declared.Arrived.{Arrived}
 use Rattle.table6.specs.declared.Facts.{Facts}
-use Rattle.table6.specs.declared.Met.{Met}
 use Rattle.table6.specs.Cell.{T1, T2, T3, Told, Done, Act, tell, alter, cell, Choice, illegal, does, chosen}
 use Rattle.table6.specs.Order.{signals}
 use Rattle.table6.specs.Summary.{Summary, still, then-told, then-done, then, summary, Summed, refused, summed, sum}
 use Rattle.table6.specs.Rows.{Heading, heading, printed}
-use Rattle.table6.specs.Stored.{metAs, met}
+use Rattle.table6.specs.Stored.{met}
 use Rattle.link.specs.declared.Num.{Num}
 use Rattle.link.specs.declared.Link.{Link}
 use Rattle.link.specs.declared.Event.{Event}
@@ -139,7 +138,7 @@ unfolding met
 met-there l v = as-performed l (meetingOf v) (chosen (facts l (meetingOf v)) (cell (printed (facts l (meetingOf v)) (heading (v .0) .row)) (l .state)))
 
 -- what an event does, from the summed-up cell that its view meets
-as-met : (l : Link) (e : Event) →
+pub as-met : (l : Link) (e : Event) →
     outcomeOf l (meetingOf (viewOf e (l .c1))) (met (viewOf e (l .c1) .0) (l .state) (factsOf l (viewOf e (l .c1)))) ≡ stepOf l e
 unfolding stepOf
 as-met l e = met-there l (viewOf e (l .c1)) ∙ ap (at-meeting l) (shown e (l .c1))
@@ -154,7 +153,3 @@ pub by-choice : (P : Outcome → Type 0) (l : Link) (e : Event) →
     P (outcomeOf l (meetingOf v) (sum (heading (v .0) .arrives) (choiceOf l v))) → P (stepOf l e)
 unfolding met
 by-choice P l e p = subst P (as-met l e) p
-
-pub stepped : (l : Link) (e : Event) (v : View) (f : Facts) (r : Met) → v ≡ viewOf e (l .c1) → f ≡ factsOf l v → metAs (l .state) r ≡ met (v .0) (l .state) f →
-    outcomeOf l (meetingOf v) (metAs (l .state) r) ≡ stepOf l e
-stepped l e v f r ev ef er = rw (er, ef, ev) (as-met l e)

@@ -5,7 +5,7 @@ use Prim.Native.Nat.{ℕ, zero, suc, _%_, _<_}
 use native.Mathlib.Nat.{le-of-suc-le-suc, not-suc-le-zero, zero-add}
 use lib.ListN.{getD, length}
 use Rattle.table6.specs.Cell.{MAAL-PROVING-indication}
-use Rattle.table6.specs.Stored.{wordAt, from, octet, said}
+use Rattle.table6.specs.Stored.{wordAt, from, wordCount, octet, said}
 use Rattle.table6.proofs.Lists.{getD-from}
 use Rattle.link.specs.declared.Signal.{Signal}
 use Rattle.link.specs.declared.Said.{Said}
@@ -25,15 +25,15 @@ nth f (x ∷ xs) zero d z h = refl
 nth f (x ∷ xs) (suc j) d z h = nth f xs j d z (le-of-suc-le-suc h)
 
 -- a step says as many signals as its words' number counts, and each word is one
-pub counted : (o : Said) → length (signalsOf o) ≡ o .words % 8
+pub counted : (o : Said) → length (signalsOf o) ≡ wordCount (o .words)
 unfolding signalsOf
 counted o =
-    length-map (meantBy o) (said (o .words)) ∙ length-map wordAt (from (octet (o .words)) 0 (o .words % 8)) ∙ length-from (octet (o .words)) 0 (o .words % 8)
+    length-map (meantBy o) (said (o .words)) ∙ length-map wordAt (from (octet (o .words)) 0 (wordCount (o .words))) ∙ length-from (octet (o .words)) 0 (wordCount (o .words))
 
-pub placed : (o : Said) (j : ℕ) (d : Signal) → j < o .words % 8 → meantBy o (wordAt (octet (o .words) j)) ≡ getD (signalsOf o) j d
+pub placed : (o : Said) (j : ℕ) (d : Signal) → j < wordCount (o .words) → meantBy o (wordAt (octet (o .words) j)) ≡ getD (signalsOf o) j d
 unfolding signalsOf
 placed o j d h =
-    let n : ℕ = o .words % 8 in
+    let n : ℕ = wordCount (o .words) in
     let ws : List ℕ = from (octet (o .words)) 0 n in
     ap (λ (w : ℕ). meantBy o (wordAt w)) (ap (octet (o .words)) (sym (zero-add j)) ∙ sym (getD-from (octet (o .words)) n 0 j 0 h))
     ∙ ap (meantBy o) (nth wordAt ws j MAAL-PROVING-indication 0 (rw (length-from (octet (o .words)) 0 n) h))

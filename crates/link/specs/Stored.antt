@@ -1,14 +1,14 @@
 -- What the code's views, changes and words stand for. Nothing here has to be believed: the promises of the public functions tie it to specs/Step.antt.
 use Prim.Native.Nat.{ℕ, _-_}
-use mathlib.Core.Bool.{Bool, true, false, cond}
+use mathlib.Core.Bool.{Bool, true, false, cond, _&&_}
 use mathlib.Core.List.{List, map}
-use lib.Dec.{eqb}
+use lib.Dec.{eqb, leb}
 use Rattle.unit.specs.declared.Arrived.{Arrived}
 use Rattle.table6.specs.declared.Facts.{Facts}
-use Rattle.table6.specs.Summary.{Op, keep, put, over, Count, same, decided, less, Summary}
+use Rattle.table6.specs.Summary.{Op, keep, put, over, Count, same, decided, less, Summary, still}
 use Rattle.table6.specs.Cell.{Told}
 use Rattle.table6.specs.Rows.{heading}
-use Rattle.table6.specs.Stored.{said}
+use Rattle.table6.specs.Stored.{stateOp, arrival, changed, said}
 use Rattle.link.specs.declared.Num.{Num}
 use Rattle.link.specs.declared.Bsnt.{Bsnt}
 use Rattle.link.specs.declared.Link.{Link}
@@ -17,7 +17,7 @@ use Rattle.link.specs.declared.Event.the-variants as event
 use Rattle.link.specs.declared.View.{View}
 use Rattle.link.specs.declared.Signal.{Signal}
 use Rattle.link.specs.declared.Said.{Said}
-use Rattle.link.specs.Effect.{taken, not-retrievable, generated}
+use Rattle.link.specs.Effect.{with-state, taken, not-retrievable, generated}
 use Rattle.link.specs.Signal.{none, signalOf}
 use Rattle.link.specs.Step.{Meeting, facts}
 
@@ -76,6 +76,10 @@ viewOf event.T1 c1 = bareView 31
 viewOf event.T2 c1 = bareView 32
 viewOf event.T3 c1 = bareView (t3RowOf c1)
 
+-- An event as the code looks at it: the number of DATA goes to BSNT and into no signal, and so it is left out.
+abbrev pub seenIn : View → View
+seenIn v = (v .0, v .1, cond (leb 13 (v .0) && leb (v .0) 16) none (v .2), v .3, v .4)
+
 -- the meeting that a view shows: its names for the five
 abbrev pub meetingOf : View → Meeting
 meetingOf v = record { heading = heading (v .0); param = v .1; number = v .2; source = v .3; len = v .4 }
@@ -90,16 +94,11 @@ counted same field l = l .c1
 counted decided field l = generated l field
 counted (less c) field l = counted c field l - 1
 
--- BSNT, as it was, with the number that came, or not retrievable; and an octet of it
+-- BSNT, as it was, with the number that came, or not retrievable
 abbrev pub held : Op Bool → Num → Bsnt → Bsnt
 held keep n old = old
 held (put true) n old = taken n
 held (put false) n old = not-retrievable
-
-abbrev pub octetHeld : Op Bool → ℕ → ℕ → ℕ
-octetHeld keep n old = old
-octetHeld (put true) n old = n
-octetHeld (put false) n old = 0
 
 -- a summary applied, with the event's field and number
 abbrev pub summedUp : Summary → ℕ → Num → Link → Link
@@ -117,6 +116,14 @@ summedUp s field n l =
       c1 = counted (s .c1) field l;
       n1 = l .n1;
     }
+
+-- what an event does to the link by itself, in whatever state it is accepted
+abbrev pub arrivedOf : View → Link → Link
+arrivedOf v l = summedUp (arrival (v .0)) (v .1) (v .2) l
+
+-- what a cell does behind that, by its number and by whether a connection comes up, with the peer's field
+abbrev pub appliedOf : ℕ → Bool → ℕ → Link → Link
+appliedOf n up field l = with-state (over (stateOp n) (l .state)) (summedUp (changed still up n) field none l)
 
 -- SIGNALS
 

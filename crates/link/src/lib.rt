@@ -3,22 +3,21 @@ use table6::Facts;
 use table6::Met;
 use table6::State;
 use table6::effects;
-use table6::effects::Change;
 use table6::rows;
 use unit::Arrived;
 use unit::Mps;
 use unit::Status;
 use unit::Ups;
 ghost use mathlib.Core.Path.{_≡_};
-ghost use Prim.Native.Nat.{_-_};
+ghost use mathlib.Core.Bool.{cond};
+ghost use Prim.Native.Nat.{_-_, _≤_};
 ghost use lib.ListN.{length};
-ghost use Rattle.table6.specs.Summary.{over};
-ghost use Rattle.table6.specs.Stored.{flagOp, mpsOp, upsOp, stateOp, countOp, changed};
-ghost use Rattle.link.specs.Effect.{with-state};
+ghost use Rattle.table6.specs.Stored.{bitOf, timersAfter, flagsAfter, upsAfter, SoundNumber};
+ghost use Rattle.link.specs.Effect.{with-bsnt, with-mps, with-ups, with-c1, taken, generated};
 ghost use Rattle.link.specs.Fresh.{freshLink};
 ghost use Rattle.link.specs.Lent.{Turned};
 ghost use Rattle.link.specs.Step.{named, stepOf};
-ghost use Rattle.link.specs.Stored.{dataRowOf, t3RowOf, viewOf, meetingOf, factsOf, counted, octetHeld, summedUp, saidOf, signalsOf};
+ghost use Rattle.link.specs.Stored.{dataRowOf, t3RowOf, viewOf, seenIn, factsOf, arrivedOf, appliedOf, saidOf, signalsOf};
 
 // A number of 24 bits, its highest octet first; or the three values of a REPORT.
 pub struct Num {
@@ -149,7 +148,7 @@ fn t3_row(c1: u16) -> u8
 }
 
 fn view_of(e: Event, c1: u16) -> View
-    ensures { λ r. ⌜ r ≡ viewOf e c1 ⌝ }
+    ensures { λ r. ⌜ r ≡ seenIn (viewOf e c1) ⌝ }
 {
     match e {
         Event::Message => View(rows::MESSAGE_FOR_TRANSMISSION, 0, ZERO, 0, 0),
@@ -171,7 +170,7 @@ fn view_of(e: Event, c1: u16) -> View
             0,
         ),
         Event::ReleaseConfirm => View(rows::RELEASE_CONFIRM, 0, ZERO, 0, 0),
-        Event::Data(a, n) => View(data_row(a), 0, n, 0, 0),
+        Event::Data(a, _) => View(data_row(a), 0, ZERO, 0, 0),
         Event::Resync => View(rows::RESYNC, 0, ZERO, 0, 0),
         Event::Recover => View(rows::RECOVER, 0, ZERO, 0, 0),
         Event::UnitData => View(rows::UNITDATA, 0, ZERO, 0, 0),
@@ -217,72 +216,114 @@ fn facts_of(l: Link, v: View) -> Facts
     }
 }
 
-fn flag_after(x: u8, old: bool) -> bool
-    ensures { λ r. ⌜ r ≡ over (flagOp x) old ⌝ }
+// The record with one thing altered. BSNT goes octet by octet: copied as one it would be packed and unpacked on the way.
+fn with_bsnt(n: Num, l: Link) -> Link
+    ensures { λ r. ⌜ r ≡ with-bsnt (taken n) l ⌝ }
 {
-    if x == effects::K {
-        old
-    } else {
-        x == effects::ON
+    let state = l.state;
+    let mps = l.mps;
+    let ups = l.ups;
+    Link {
+        state: state,
+        ins: l.ins,
+        lpo: l.lpo,
+        mps: mps,
+        ups: ups,
+        t1: l.t1,
+        t2: l.t2,
+        t3: l.t3,
+        bsnt: Bsnt {
+            known: true,
+            num: Num {
+                a: n.a,
+                b: n.b,
+                c: n.c,
+            },
+        },
+        c1: l.c1,
+        n1: l.n1,
     }
 }
 
-fn mps_after(x: u8, old: Mps) -> Mps
-    ensures { λ r. ⌜ r ≡ over (mpsOp x) old ⌝ }
+fn with_mps(x: Mps, l: Link) -> Link
+    ensures { λ r. ⌜ r ≡ with-mps x l ⌝ }
 {
-    match x {
-        effects::MPS_N => Mps::Neutral,
-        effects::MPS_NM => Mps::Normal,
-        effects::MPS_EM => Mps::Emergency,
-        _ => old,
+    let state = l.state;
+    let ups = l.ups;
+    Link {
+        state: state,
+        ins: l.ins,
+        lpo: l.lpo,
+        mps: x,
+        ups: ups,
+        t1: l.t1,
+        t2: l.t2,
+        t3: l.t3,
+        bsnt: Bsnt {
+            known: l.bsnt.known,
+            num: Num {
+                a: l.bsnt.num.a,
+                b: l.bsnt.num.b,
+                c: l.bsnt.num.c,
+            },
+        },
+        c1: l.c1,
+        n1: l.n1,
     }
 }
 
-fn ups_after(x: u8, old: Ups) -> Ups
-    ensures { λ r. ⌜ r ≡ over (upsOp x) old ⌝ }
+fn with_ups(x: Ups, l: Link) -> Link
+    ensures { λ r. ⌜ r ≡ with-ups x l ⌝ }
 {
-    match x {
-        effects::UPS_NM => Ups::Normal,
-        effects::UPS_EM => Ups::Emergency,
-        _ => old,
+    let state = l.state;
+    let mps = l.mps;
+    Link {
+        state: state,
+        ins: l.ins,
+        lpo: l.lpo,
+        mps: mps,
+        ups: x,
+        t1: l.t1,
+        t2: l.t2,
+        t3: l.t3,
+        bsnt: Bsnt {
+            known: l.bsnt.known,
+            num: Num {
+                a: l.bsnt.num.a,
+                b: l.bsnt.num.b,
+                c: l.bsnt.num.c,
+            },
+        },
+        c1: l.c1,
+        n1: l.n1,
     }
 }
 
-fn state_after(x: u8, old: State) -> State
-    ensures { λ r. ⌜ r ≡ over (stateOp x) old ⌝ }
+fn with_c1(x: u16, l: Link) -> Link
+    ensures { λ r. ⌜ r ≡ with-c1 x l ⌝ }
 {
-    match x {
-        effects::TO_111 => State::S111,
-        effects::TO_141 => State::S141,
-        effects::TO_212 => State::S212,
-        effects::TO_222 => State::S222,
-        effects::TO_242 => State::S242,
-        effects::TO_2103 => State::S2103,
-        effects::TO_2104 => State::S2104,
-        effects::TO_3105 => State::S3105,
-        _ => old,
-    }
-}
-
-// BSNT goes octet by octet: copied as one it would be packed and unpacked on the way.
-fn octet_after(x: u8, n: u8, old: u8) -> u8
-    ensures { λ r. ⌜ r ≡ octetHeld (flagOp x) n old ⌝ }
-{
-    match x {
-        effects::K => old,
-        effects::TAKEN => n,
-        _ => 0,
-    }
-}
-
-// Whether BSNT is known. A flag like the others, which takes fewer instructions by a match (D63).
-fn known_after(x: u8, old: bool) -> bool
-    ensures { λ r. ⌜ r ≡ over (flagOp x) old ⌝ }
-{
-    match x {
-        effects::K => old,
-        effects::TAKEN => true,
-        _ => false,
+    let state = l.state;
+    let mps = l.mps;
+    let ups = l.ups;
+    Link {
+        state: state,
+        ins: l.ins,
+        lpo: l.lpo,
+        mps: mps,
+        ups: ups,
+        t1: l.t1,
+        t2: l.t2,
+        t3: l.t3,
+        bsnt: Bsnt {
+            known: l.bsnt.known,
+            num: Num {
+                a: l.bsnt.num.a,
+                b: l.bsnt.num.b,
+                c: l.bsnt.num.c,
+            },
+        },
+        c1: x,
+        n1: l.n1,
     }
 }
 
@@ -292,52 +333,111 @@ fn one_less(c: u16) -> u16
     if c == 0 { 0 } else { c - 1 }
 }
 
-fn c1_after(x: u8, l: Link, field: u8) -> u16
-    ensures { λ r. ⌜ r ≡ counted (countOp x) field l ⌝ }
+// What an event does to the link by itself, in whatever state it is accepted.
+fn arrived(e: Event, l: Link) -> Link
+    ensures { λ r. ⌜ r ≡ arrivedOf (viewOf e (l .c1)) l ⌝ }
 {
-    let mps = l.mps;
-    let ups = l.ups;
-    match x {
-        effects::DECIDED => unit::generate_n1(mps, ups, field, l.n1),
-        effects::LESS => one_less(l.c1),
-        _ => l.c1,
+    match e {
+        Event::Emergency => with_ups(Ups::Emergency, l),
+        Event::EmergencyCeases => with_ups(Ups::Normal, l),
+        Event::Data(_, n) => with_bsnt(n, l),
+        Event::ForceProving => with_mps(Mps::Normal, l),
+        Event::ForceEmergency => with_mps(Mps::Emergency, l),
+        Event::ClearForceModes => with_mps(Mps::Neutral, l),
+        Event::T3 => with_c1(one_less(l.c1), l),
+        _ => l,
     }
 }
 
-// The record after what a cell does to it. Of the orders that were tried this takes the fewest instructions (D63).
-fn applied(c: Change, v: View, l: Link) -> Link
-    ensures { λ r. ⌜ r ≡ with-state (over (stateOp (c .0)) (l .state)) (summedUp (changed c) (meetingOf v .param) (meetingOf v .number) l) ⌝ }
+fn bit(b: bool) -> u8
+    ensures { λ r. ⌜ (r ≡ bitOf b) × (r ≤ 1) ⌝ }
 {
-    let View(_, param, num, _, _) = v;
-    let Change(to, ins, lpo, mps, ups, t1, t2, t3, c1, bsnt) = c;
-    let old_state = l.state;
-    let old_mps = l.mps;
-    let old_ups = l.ups;
+    if b { 1 } else { 0 }
+}
+
+// The timers that run after the number of a cell, as bits, T1 lowest.
+fn timers_after(n: u64, l: Link) -> u8
+    ensures { λ r. ⌜ r ≡ timersAfter n (l .t1) (l .t2) (l .t3) ⌝ }
+{
+    let kept = (n / 64 % 8) as u8;
+    let set = (n / 512 % 8) as u8;
+    ((bit(l.t1) + 2 * bit(l.t2) + 4 * bit(l.t3)) & kept) + set
+}
+
+// The INS flag and LPO after it, as bits.
+fn flags_after(n: u64, l: Link) -> u8
+    ensures { λ r. ⌜ r ≡ flagsAfter n (l .ins) (l .lpo) ⌝ }
+{
+    let kept = (n / 4096 % 4) as u8;
+    let set = (n / 16384 % 4) as u8;
+    ((bit(l.ins) + 2 * bit(l.lpo)) & kept) + set
+}
+
+fn ups_after(n: u64, old: Ups) -> Ups
+    ensures { λ r. ⌜ r ≡ upsAfter n old ⌝ }
+{
+    match old.code() & (n / 65536 % 2) as u8 {
+        0 => Ups::Normal,
+        _ => Ups::Emergency,
+    }
+}
+
+// An octet of BSNT, which is 0 once a connection comes up.
+fn unless(up: bool, old: u8) -> u8
+    ensures { λ r. ⌜ r ≡ cond up 0 old ⌝ }
+{
+    if up { 0 } else { old }
+}
+
+fn c1_after(up: bool, field: u8, l: Link) -> u16
+    ensures { λ r. ⌜ r ≡ cond up (generated l field) (l .c1) ⌝ }
+{
+    let mps = l.mps;
+    let ups = l.ups;
+    if up {
+        unit::generate_n1(mps, ups, field, l.n1)
+    } else {
+        l.c1
+    }
+}
+
+// The record after what a cell does to it: by the masks of its number, and by whether a connection comes up, with the peer's field.
+fn applied(n: u64, up: bool, field: u8, l: Link) -> Link
+    requires { ⌜ SoundNumber n ⌝ }
+    ensures { λ r. ⌜ r ≡ appliedOf n up field l ⌝ }
+{
+    let state = l.state;
+    let mps = l.mps;
+    let ups = l.ups;
+    let timers = timers_after(n, l);
+    let flags = flags_after(n, l);
+    let ups_next = ups_after(n, ups);
+    let state_next = table6::state_after(n, state);
     Link {
-        t2: flag_after(t2, l.t2),
-        lpo: flag_after(lpo, l.lpo),
-        state: state_after(to, old_state),
-        ins: flag_after(ins, l.ins),
-        mps: mps_after(mps, old_mps),
-        ups: ups_after(ups, old_ups),
-        t1: flag_after(t1, l.t1),
-        t3: flag_after(t3, l.t3),
+        state: state_next,
+        ins: flags % 2 == 1,
+        lpo: flags / 2 % 2 == 1,
+        mps: mps,
+        ups: ups_next,
+        t1: timers % 2 == 1,
+        t2: timers / 2 % 2 == 1,
+        t3: timers / 4 % 2 == 1,
         bsnt: Bsnt {
-            known: known_after(bsnt, l.bsnt.known),
+            known: l.bsnt.known & !up,
             num: Num {
-                a: octet_after(bsnt, num.a, l.bsnt.num.a),
-                b: octet_after(bsnt, num.b, l.bsnt.num.b),
-                c: octet_after(bsnt, num.c, l.bsnt.num.c),
+                a: unless(up, l.bsnt.num.a),
+                b: unless(up, l.bsnt.num.b),
+                c: unless(up, l.bsnt.num.c),
             },
         },
-        c1: c1_after(c1, l, param),
+        c1: c1_after(up, field, l),
         n1: l.n1,
     }
 }
 
 // What a step says: the signals of its cell, and what they take from the event and from the link as the event found it.
 pub struct Said {
-    // The signals of the cell, as effects.rt of table6 numbers them.
+    // The number of the cell, which has its signals, as effects.rt of table6 has it.
     pub words: u64,
     pub param: u8,
     pub num: Num,
@@ -350,7 +450,7 @@ pub struct Said {
 pub fn count(o: Said) -> u8
     ensures { λ r. ⌜ r ≡ length (signalsOf o) ⌝ }
 {
-    (o.words % 8) as u8
+    (o.words / 262144 % 8) as u8
 }
 
 // What is said with the words of a cell.
@@ -388,17 +488,18 @@ fn step(l: Link, e: Event) -> Turn
     ensures { λ r. ⌜ Turned l (stepOf l e) (r .link) (r .reply) ⌝ }
 {
     let v = view_of(e, l.c1);
-    let f = facts_of(l, v);
-    let View(row, _, _, _, _) = v;
+    let a = arrived(e, l);
+    let f = facts_of(a, v);
+    let View(row, param, _, _, _) = v;
     let state = l.state;
     match table6::cell(row, state, f) {
         Met::Illegal => Turn {
             link: l,
             reply: Reply::Illegal,
         },
-        Met::Does(change, words) => {
-            let next = applied(change, v, l);
-            let said = saying(words, v, l);
+        Met::Does(n, up) => {
+            let next = applied(n, up, param, a);
+            let said = saying(n, v, a);
             Turn {
                 link: next,
                 reply: Reply::Legal(said),

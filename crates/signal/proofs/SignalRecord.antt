@@ -19,7 +19,7 @@ use Rattle.link.specs.Stored.{meantBy}
 use Rattle.octet.specs.Octets.{at, over, putAt}
 use Rattle.event.specs.Frame.{SG, written, linkAt, lengthAt}
 use Rattle.signal.specs.SignalRecord.{bodyOf, signalOctets, joined, Put, SignalReread, SignalRewritten, SignalsApart}
-use Rattle.signal.specs.Writing.{fromCode, fixedAt, PutCode}
+use Rattle.signal.specs.Writing.{frontOf, fromCode, fixedAt, PutCode}
 use Rattle.octet.proofs.Over.{lent, behind, put-behind, put-set}
 use Rattle.octet.proofs.Octets.{high-same, low-same}
 use Rattle.event.proofs.Frame.{frame-reread, frame-rewritten, two-back, written-length}
@@ -53,10 +53,6 @@ module _ {s d d₁ : List ℕ} {r : ℕ} (p : PutCode s d r d₁) (h : 12 ≤ le
         written = e ∙ ap (λ (l : List ℕ). putAt l (4 + length s) m) (p .written) ∙ put-behind d s m 4 (omega arith);
       }
 
--- before them the mark, and the link's number as the event has it
-abbrev pub frontOf : List ℕ → List ℕ
-frontOf e = at SG 0 ∷ at SG 1 ∷ at e 2 ∷ at e 3 ∷ []
-
 pub with-front : (e m : List ℕ) (s : Signal) {d d₁ d₂ : List ℕ} {r : ℕ} → at e 3 < 256 → d₁ ≡ over (frontOf e) d → PutCode (fromCode m s) d₁ r d₂ →
     Put (signalOctets (linkAt e) m s) d r d₂
 unfolding written
@@ -73,10 +69,10 @@ with-front e m s {d} b f p =
     }
 
 -- THE WORDS OF A STEP: each turn of the writer drops one
-pub next-word : (words j : ℕ) → words / 2 ^ (j * 8 + 8) / 256 ≡ words / 2 ^ ((j + 1) * 8 + 8)
+pub next-word : (words j : ℕ) → words / 2 ^ (j * 8 + 24) / 256 ≡ words / 2 ^ ((j + 1) * 8 + 24)
 next-word words j =
-    let e : j * 8 + 8 + 8 ≡ (j + 1) * 8 + 8 = omega arith in
-    div-div-eq-div-mul words (2 ^ (j * 8 + 8)) 256 ∙ ap (λ (n : ℕ). words / n) (sym (pow-add 2 (j * 8 + 8) 8) ∙ ap (λ (n : ℕ). 2 ^ n) e)
+    let e : j * 8 + 24 + 8 ≡ (j + 1) * 8 + 24 = omega arith in
+    div-div-eq-div-mul words (2 ^ (j * 8 + 24)) 256 ∙ ap (λ (n : ℕ). words / n) (sym (pow-add 2 (j * 8 + 24) 8) ∙ ap (λ (n : ℕ). 2 ^ n) e)
 
 module _ (k : ℕ) (m : List ℕ) where
   pub signal-length : (s : Signal) → length (signalOctets k m s) ≡ 12 + length (bodyOf (s .carries) m)

@@ -2,20 +2,24 @@
 -- of `put_all` names none of it.
 use Prim.Native.Nat.{ℕ, _+_, _≤_}
 use mathlib.Core.Path.{_≡_}
-use mathlib.Core.List.{List, [], _++_}
+use mathlib.Core.List.{List, [], _∷_, _++_}
 use lib.ListN.{length, drop, getD}
 use Rattle.unit.specs.declared.Mps.{Mps}
 use Rattle.unit.specs.declared.Ups.{Ups}
 use Rattle.table6.specs.Stored.{wordAt, from}
 use Rattle.link.specs.declared.Signal.{Signal}
 use Rattle.link.specs.Signal.{none, signalOf}
-use Rattle.octet.specs.Octets.{putAt}
+use Rattle.octet.specs.Octets.{at, putAt}
 use Rattle.event.specs.Frame.{headOctets, messageOctets, SG, headOf, lengthAt, messageOf}
 use Rattle.signal.specs.SignalRecord.{bodyOf}
 
 -- The octets of an event are as many as it says.
 abbrev pub Whole : List ℕ → Type 0
 Whole e = (headOctets ≤ length e) × (lengthAt e ≡ length (messageOf e)) × (length (messageOf e) ≤ messageOctets)
+
+-- the mark and the link's number, as a signal has them and the event
+abbrev pub frontOf : List ℕ → List ℕ
+frontOf e = at SG 0 ∷ at SG 1 ∷ at e 2 ∷ at e 3 ∷ []
 
 -- a signal's octets behind the mark and the link's number
 abbrev pub fromCode : List ℕ → Signal → List ℕ

@@ -30,11 +30,11 @@ use unit::Status;
 use unit::Ups;
 ghost use mathlib.Core.Path.{_≡_};
 ghost use mathlib.Core.List.{[]};
-ghost use Prim.Native.Nat.{_+_, _≤_};
+ghost use Prim.Native.Nat.{_+_, _-_, _≤_};
 ghost use lib.ListN.{length, set};
 ghost use Rattle.unit.specs.Unit.{code, unitOf};
 ghost use Rattle.unit.specs.Proving.{table8};
-ghost use Rattle.table6.specs.SignalCodes.{DATA-request};
+ghost use Rattle.table6.specs.SignalCodes.{ESTABLISH-request, DATA-request};
 ghost use Rattle.table6.specs.Stored.{wordAt};
 ghost use Rattle.link.specs.declared.Carries.{Carries};
 ghost use Rattle.link.specs.Signal.{none, signal};
@@ -42,7 +42,7 @@ ghost use Rattle.link.specs.Stored.{meantBy, signalsOf};
 ghost use Rattle.octet.specs.Octets.{putAt};
 ghost use Rattle.event.specs.Frame.{headOctets, messageOctets, linkAt, lengthAt, messageOf};
 ghost use Rattle.signal.specs.SignalRecord.{bodyOf, signalOctets, joined, Put};
-ghost use Rattle.signal.specs.Writing.{Whole, fromCode, PutCode, fixedWords, fixedAt};
+ghost use Rattle.signal.specs.Writing.{Whole, frontOf, fromCode, PutCode, fixedWords, fixedAt};
 
 // The mark of a signal.
 const SG: [u8; 2] = *b"SG";
@@ -55,7 +55,7 @@ const UNIT: u8 = 4;
 
 // Octets 4 to 11 of a signal that is known beforehand: code, parameter, number, zero, length. The compiler stores eight constants at once; so what a signal
 // carries is stored after them, by itself. Each of these signals has an arm of its own, so that where w is known to be one, nothing is tested.
-fn fixed(w: u8) -> [u8; 8]
+fn fixed(w: u64) -> [u8; 8]
     ensures { λ r. ⌜ r ≡ fixedAt w ⌝ }
 {
     match w {
@@ -174,8 +174,16 @@ fn offered(mps: Mps, ups: Ups) -> u8
     unit::sscop_uu(mps, ups).code()
 }
 
+// The code of a request or a response that offers it. Their words follow each other as their codes do.
+fn establishing(w: u64) -> u8
+    requires { ⌜ (38 ≤ w) × (w ≤ 39) ⌝ }
+    ensures { λ r. ⌜ r ≡ ESTABLISH-request + (w - 38) ⌝ }
+{
+    signals::ESTABLISH_REQUEST + (w - effects::ESTABLISH_REQUEST) as u8
+}
+
 // Writes a signal that carries something from octet 4 on, and answers its length. No step says a word past the last; table6 has it start proving.
-fn put_carrying(out: &mut [u8], w: u8, said: Said, e: &[u8]) -> usize
+fn put_carrying(out: &mut [u8], w: u64, said: Said, e: &[u8]) -> usize
     requires { ⌜ (fixedWords ≤ w) × Whole (now e) × (headOctets + length (bodyOf (meantBy said (wordAt w) .carries) (messageOf (now e))) ≤ length (now out)) ⌝ }
     ensures { λ r. ⌜ PutCode (fromCode (messageOf (now (e .entry))) (meantBy said (wordAt w))) (now (out .entry)) r (now (out .exit)) ⌝ }
 {
@@ -190,14 +198,9 @@ fn put_carrying(out: &mut [u8], w: u8, said: Said, e: &[u8]) -> usize
             said.param,
         ),
         effects::BSNT => with_number(out, signals::BSNT, bsnt),
-        effects::ESTABLISH_REQUEST => with_param(
+        effects::ESTABLISH_REQUEST | effects::ESTABLISH_RESPONSE => with_param(
             out,
-            [signals::ESTABLISH_REQUEST, 0, 0, 0, 0, 0, 0, 0],
-            offered(mps, ups),
-        ),
-        effects::ESTABLISH_RESPONSE => with_param(
-            out,
-            [signals::ESTABLISH_RESPONSE, 0, 0, 0, 0, 0, 0, 0],
+            [establishing(w), 0, 0, 0, 0, 0, 0, 0],
             offered(mps, ups),
         ),
         effects::RETRIEVE_REQUEST => with_number(out, signals::RETRIEVE_REQUEST, num),
@@ -215,12 +218,19 @@ fn put_carrying(out: &mut [u8], w: u8, said: Said, e: &[u8]) -> usize
     }
 }
 
-// Writes one signal over the front of out, and answers its length. The link's number is in the event's octets as in the signal's.
-fn put_signal(out: &mut [u8], w: u8, said: Said, e: &[u8]) -> usize
-    requires { ⌜ Whole (now e) × (headOctets + length (bodyOf (meantBy said (wordAt w) .carries) (messageOf (now e))) ≤ length (now out)) ⌝ }
+// The mark and the link's number, which is in the event's octets as in a signal's.
+fn front_of(e: &[u8]) -> [u8; 4]
+    requires { ⌜ headOctets ≤ length (now e) ⌝ }
+    ensures { λ r. ⌜ r ≡ frontOf (now (e .entry)) ⌝ }
+{
+    [SG[0], SG[1], e[2], e[3]]
+}
+
+// Writes one signal over the front of out, and answers its length.
+fn put_signal(out: &mut [u8], front: [u8; 4], w: u64, said: Said, e: &[u8]) -> usize
+    requires { ⌜ (front ≡ frontOf (now e)) × Whole (now e) × (headOctets + length (bodyOf (meantBy said (wordAt w) .carries) (messageOf (now e))) ≤ length (now out)) ⌝ }
     ensures { λ r. ⌜ Put (signalOctets (linkAt (now (e .entry))) (messageOf (now (e .entry))) (meantBy said (wordAt w))) (now (out .entry)) r (now (out .exit)) ⌝ }
 {
-    let front = [SG[0], SG[1], e[2], e[3]];
     put(out, &front);
     if w < effects::CARRYING {
         put_fixed(out, fixed(w))
@@ -235,12 +245,13 @@ pub fn put_all(out: &mut [u8], said: Said, e: &[u8]) -> usize
     ensures { λ r. ⌜ Put (joined (linkAt (now (e .entry))) (messageOf (now (e .entry))) (signalsOf said)) (now (out .entry)) r (now (out .exit)) ⌝ }
 {
     let n = count(said);
-    let mut rest = said.words / 256;
+    let front = front_of(e);
+    let mut rest = said.words / 16777216;
     let mut at = 0;
     let mut j = 0;
     while j < n {
-        let w = (rest % 256) as u8;
-        at += put_signal(&mut out[at..], w, said, e);
+        let w = rest % 256;
+        at += put_signal(&mut out[at..], front, w, said, e);
         rest = rest / 256;
         j += 1;
     }

@@ -4,8 +4,10 @@ use mathlib.Core.List.{List, [], _∷_}
 use Prim.Native.Nat.{ℕ, zero, suc, _+_, _<_, _≤_}
 use native.Mathlib.Omega.{arith}
 use native.Mathlib.Nat.{add-zero, zero-add, add-suc, suc-add, le-of-suc-le-suc, not-suc-le-zero}
+use lib.Dec.{lit<}
 use lib.ListN.{length, getD}
-use Rattle.table6.specs.Stored.{from}
+use Rattle.table6.specs.declared.State.{State}
+use Rattle.table6.specs.Stored.{from, place}
 
 pub getD-from {ℓ} : {A : Type ℓ} (f : ℕ → A) (n i k : ℕ) (d : A) → k < n → getD (from f i n) k d ≡ f (i + k)
 getD-from f zero i k d h = absurd (not-suc-le-zero h)
@@ -33,3 +35,14 @@ past (x ∷ xs) (suc i) d h = past xs i d (le-of-suc-le-suc h)
 
 pub beyond {ℓ} : {A : Type ℓ} (xs : List A) (n i : ℕ) (d : A) → length xs ≡ n → MissedFrom 0 i n → d ≡ getD xs i d
 beyond xs n i d e m = past xs i d (rw e (omega (arith, missed-from 0 i n (omega arith) m)))
+
+-- a column is one of eight
+pub below : (s : State) → place s < 8
+below State.S111 = lit< tt
+below State.S141 = lit< tt
+below State.S212 = lit< tt
+below State.S222 = lit< tt
+below State.S242 = lit< tt
+below State.S2103 = lit< tt
+below State.S2104 = lit< tt
+below State.S3105 = lit< tt

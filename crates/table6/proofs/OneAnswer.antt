@@ -11,5 +11,5 @@ use Rattle.table6.proofs.cell.Reads as cell
 pub does-one : OneAnswer does-kinds.ps does-kinds.r does.Post
 does-one κs arguments x y e f = equal
 
-pub cell-one : OneReading cell-kinds.ps cell-kinds.r Summed (λ κs arguments x e. metAs (arguments .1 .0) x) cell.Post
-cell-one κs arguments x y e f = equal
+pub cell-one : OneReading cell-kinds.ps cell-kinds.r Summed (λ κs arguments x e. metAs (arguments .0) (arguments .1 .0) x) cell.Post
+cell-one κs arguments x y e f p q = equal (p .0) (q .0)

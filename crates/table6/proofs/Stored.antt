@@ -9,11 +9,12 @@ use borrow.Author.Tests.{eqb-true, ltb-true, ltb-false}
 use Rattle.table6.specs.declared.State.{State}
 use Rattle.table6.specs.declared.Facts.{Facts}
 use Rattle.table6.specs.declared.Met.{Met}
+use Rattle.table6.specs.declared.effects.Alternative.{Alternative}
 use Rattle.table6.specs.Cell.{Cond, LPO=0, LPO=0&INS=0, LPO=0&INS=1, UU=EM-or-NM, Source=User, BSNT-available, MU>4, holds}
 use Rattle.table6.specs.Cell.{Act, tell, alter, Cell, Illegal, to, _⨟_, _⨾_, IF_THEN_ELSE_, Row, cell, Choice, illegal, does, after, chosen}
 use Rattle.table6.specs.Summary.{Summed, refused, sum}
 use Rattle.table6.specs.Rows.{Printed, one, two, printed, rows, nowhere, heading}
-use Rattle.table6.specs.Stored.{place, codes, no-row, rowOf, codeAt, packed, Ask, refuses, gives, asks, follow, askAt, from, meets, met, metAs}
+use Rattle.table6.specs.Stored.{place, codes, no-row, rowOf, codeAt, numberAt, Ask, gives, asks, picked, askAt, doneBy, metOf, from, meets, met, metAs}
 use Rattle.table6.proofs.Lists.{alike, past}
 use Rattle.table6.proofs.Unfolded.{every-row}
 
@@ -61,20 +62,31 @@ taken (when q w v) f = cond (test q f) (taken w f) (taken v f)
 
 -- THE STORED SIDE
 
-abbrev asked-way : State → Ask → Way
-asked-way s refuses = only refused
-asked-way s (gives c ws) = only (metAs s (Met.Does c (packed ws)))
-asked-way s (asks q y n) = when (number q) (asked-way s y) (asked-way s n)
+abbrev asked-way : ℕ → State → Ask → Way
+asked-way row s (gives c up) = only (metAs row s (doneBy (c, up)))
+asked-way row s (asks q y n) = when (number q) (asked-way row s y) (asked-way row s n)
 
-by-answer : (b : Bool) (s : State) (y n : Met) (w v : Summed) → w ≡ metAs s y → v ≡ metAs s n → cond b w v ≡ metAs s (cond b y n)
-by-answer true s y n w v p q = p
-by-answer false s y n w v p q = q
+abbrev coded-way : ℕ → State → ℕ → Way
+coded-way row s c = cond (eqb c 0) (only refused) (asked-way row s (askAt c))
 
-stored-way : (s : State) (a : Ask) (f : Facts) → taken (asked-way s a) f ≡ metAs s (follow f a)
-stored-way s refuses f = refl
-stored-way s (gives c ws) f = refl
-stored-way s (asks q y n) f =
-    rw (numbered q f) (by-answer (holds q f) s (follow f y) (follow f n) _ _ (stored-way s y f) (stored-way s n f))
+by-answer : (b : Bool) (row : ℕ) (s : State) (y n : Alternative) (w v : Summed) → w ≡ metAs row s (doneBy y) → v ≡ metAs row s (doneBy n) →
+    cond b w v ≡ metAs row s (doneBy (cond b y n))
+by-answer true row s y n w v p q = p
+by-answer false row s y n w v p q = q
+
+stored-way : (row : ℕ) (s : State) (a : Ask) (f : Facts) → taken (asked-way row s a) f ≡ metAs row s (doneBy (picked f a))
+stored-way row s (gives c up) f = refl
+stored-way row s (asks q y n) f =
+    rw (numbered q f) (by-answer (holds q f) row s (picked f y) (picked f n) _ _ (stored-way row s y f) (stored-way row s n f))
+
+by-code : (b : Bool) (row : ℕ) (s : State) (a : Ask) (f : Facts) →
+    taken (cond b (only refused) (asked-way row s a)) f ≡ metAs row s (cond b Met.Illegal (doneBy (picked f a)))
+by-code true row s a f = refl
+by-code false row s a f = stored-way row s a f
+
+coded-met : (row : ℕ) (s : State) (c : ℕ) (f : Facts) → taken (coded-way row s c) f ≡ metAs row s (metOf c f)
+unfolding metOf
+coded-met row s c f = by-code (eqb c 0) row s (askAt c) f
 
 -- what is left of a way once an answer is known
 abbrev given : ℕ → Bool → Way → Way
@@ -140,31 +152,31 @@ printedIf b (one r) = r
 printedIf true (two q r s) = r
 printedIf false (two q r s) = s
 
-abbrev eight : (State → Way) → List Way
+abbrev pub eight {ℓ} : {A : Type ℓ} → (State → A) → List A
 eight g = g State.S111 ∷ g State.S141 ∷ g State.S212 ∷ g State.S222 ∷ g State.S242 ∷ g State.S2103 ∷ g State.S2104 ∷ g State.S3105 ∷ []
 
 abbrev storedCell : Bool → ℕ → State → Way
-storedCell b row s = given (asked (heading row .row)) b (asked-way s (askAt (codeAt row s)))
+storedCell b row s = given (asked (heading row .row)) b (coded-way row s (codeAt row s))
 
 abbrev paperCell : Bool → ℕ → State → Way
 paperCell b row s = way (heading row .arrives) [] (cell (printedIf b (heading row .row)) s)
 
 all-cells : (b : Bool) → from (λ row. eight (storedCell b row)) 0 35 ≡ from (λ row. eight (paperCell b row)) 0 35
-unfolding rowOf codeAt askAt every-row
+unfolding rowOf codeAt askAt numberAt every-row
 all-cells true = refl
 all-cells false = refl
 
 -- THE RULE AT EACH CELL
 
-of-eight : (g h : State → Way) → eight g ≡ eight h → (s : State) → g s ≡ h s
-of-eight g h e State.S111 = ap (λ (l : List Way). getD l 0 (only refused)) e
-of-eight g h e State.S141 = ap (λ (l : List Way). getD l 1 (only refused)) e
-of-eight g h e State.S212 = ap (λ (l : List Way). getD l 2 (only refused)) e
-of-eight g h e State.S222 = ap (λ (l : List Way). getD l 3 (only refused)) e
-of-eight g h e State.S242 = ap (λ (l : List Way). getD l 4 (only refused)) e
-of-eight g h e State.S2103 = ap (λ (l : List Way). getD l 5 (only refused)) e
-of-eight g h e State.S2104 = ap (λ (l : List Way). getD l 6 (only refused)) e
-of-eight g h e State.S3105 = ap (λ (l : List Way). getD l 7 (only refused)) e
+pub of-eight {ℓ} : {A : Type ℓ} (g h : State → A) → eight g ≡ eight h → (s : State) → g s ≡ h s
+of-eight g h e State.S111 = ap (λ l. getD l 0 (g State.S111)) e
+of-eight g h e State.S141 = ap (λ l. getD l 1 (g State.S111)) e
+of-eight g h e State.S212 = ap (λ l. getD l 2 (g State.S111)) e
+of-eight g h e State.S222 = ap (λ l. getD l 3 (g State.S111)) e
+of-eight g h e State.S242 = ap (λ l. getD l 4 (g State.S111)) e
+of-eight g h e State.S2103 = ap (λ l. getD l 5 (g State.S111)) e
+of-eight g h e State.S2104 = ap (λ l. getD l 6 (g State.S111)) e
+of-eight g h e State.S3105 = ap (λ l. getD l 7 (g State.S111)) e
 
 same-cell : (b : Bool) (row : ℕ) → row < 35 → (s : State) → storedCell b row s ≡ paperCell b row s
 same-cell b row h = of-eight (storedCell b row) (paperCell b row) (alike (λ k. eight (storedCell b k)) (λ k. eight (paperCell b k)) 35 [] (all-cells b) row h)
@@ -173,44 +185,44 @@ from-start : (x : Choice) → behind [] x ≡ x
 from-start illegal = refl
 from-start (does acts next) = refl
 
-picked : (b : Bool) (q : Cond) (r s : Row) → printedIf b (two q r s) ≡ cond b r s
-picked true q r s = refl
-picked false q r s = refl
+either-row : (b : Bool) (q : Cond) (r s : Row) → printedIf b (two q r s) ≡ cond b r s
+either-row true q r s = refl
+either-row false q r s = refl
 
 printed-by : (p : Printed) (f : Facts) → printedIf (test (asked p) f) p ≡ printed f p
 printed-by (one r) f = refl
-printed-by (two q r s) f = rw (numbered q f) (picked (holds q f) q r s)
+printed-by (two q r s) f = rw (numbered q f) (either-row (holds q f) q r s)
 
-inside : (row : ℕ) (s : State) (f : Facts) → row < 35 → metAs s (follow f (askAt (codeAt row s))) ≡ meets (heading row) s f
+inside : (row : ℕ) (s : State) (f : Facts) → row < 35 → metAs row s (metOf (codeAt row s) f) ≡ meets (heading row) s f
 inside row s f h =
-    let a : Ask = askAt (codeAt row s) in
+    let c : ℕ = codeAt row s in
     let p : Printed = heading row .row in
     let q : ℕ = asked p in
-    sym (stored-way s a f)
-    ∙ sym (given-way q (test q f) (asked-way s a) f refl)
+    sym (coded-met row s c f)
+    ∙ sym (given-way q (test q f) (coded-way row s c) f refl)
     ∙ ap (λ (w : Way). taken w f) (same-cell (test q f) row h s)
     ∙ paper-way (heading row .arrives) [] (cell (printedIf (test q f) p) s) f
     ∙ ap (sum (heading row .arrives)) (from-start (chosen f (cell (printedIf (test q f) p) s)) ∙ ap (λ (r : Row). chosen f (cell r s)) (printed-by p f))
 
-no-cell : (s : State) (f : Facts) → metAs s (follow f (askAt (getD no-row (place s) 0))) ≡ meets nowhere s f
-unfolding askAt
-no-cell State.S111 f = refl
-no-cell State.S141 f = refl
-no-cell State.S212 f = refl
-no-cell State.S222 f = refl
-no-cell State.S242 f = refl
-no-cell State.S2103 f = refl
-no-cell State.S2104 f = refl
-no-cell State.S3105 f = refl
+no-cell : (row : ℕ) (s : State) (f : Facts) → metAs row s (metOf (getD no-row (place s) 0) f) ≡ meets nowhere s f
+unfolding metOf
+no-cell row State.S111 f = refl
+no-cell row State.S141 f = refl
+no-cell row State.S212 f = refl
+no-cell row State.S222 f = refl
+no-cell row State.S242 f = refl
+no-cell row State.S2103 f = refl
+no-cell row State.S2104 f = refl
+no-cell row State.S3105 f = refl
 
-outside : (row : ℕ) (s : State) (f : Facts) → 35 ≤ row → metAs s (follow f (askAt (codeAt row s))) ≡ meets (heading row) s f
+outside : (row : ℕ) (s : State) (f : Facts) → 35 ≤ row → metAs row s (metOf (codeAt row s) f) ≡ meets (heading row) s f
 unfolding rowOf codeAt
-outside row s f h = rw (← past codes row no-row h, ← past rows row nowhere h) (no-cell s f)
+outside row s f h = rw (← past codes row no-row h, ← past rows row nowhere h) (no-cell row s f)
 
-by-row : (b : Bool) (row : ℕ) (s : State) (f : Facts) → ltb row 35 ≡ b → metAs s (follow f (askAt (codeAt row s))) ≡ meets (heading row) s f
+by-row : (b : Bool) (row : ℕ) (s : State) (f : Facts) → ltb row 35 ≡ b → metAs row s (metOf (codeAt row s) f) ≡ meets (heading row) s f
 by-row true row s f e = inside row s f (ltb-true row 35 e)
 by-row false row s f e = outside row s f (ltb-false row 35 e)
 
-pub at-each-cell : (row : ℕ) (s : State) (f : Facts) → metAs s (follow f (askAt (codeAt row s))) ≡ met row s f
+pub at-each-cell : (row : ℕ) (s : State) (f : Facts) → metAs row s (metOf (codeAt row s) f) ≡ met row s f
 unfolding met
 at-each-cell row s f = by-row (ltb row 35) row s f refl

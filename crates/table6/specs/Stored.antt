@@ -1,20 +1,23 @@
 -- What the numbers that the code stores stand for. Nothing here has to be believed: the code is proved to hold these numbers, and one computed test
 -- shows that they decode to Table 6 (proofs/Stored.antt).
-use Prim.Native.Nat.{ℕ, zero, suc, _+_, _*_, _^_, _/_, _%_}
-use mathlib.Core.Bool.{Bool, cond}
+use Prim.Native.Nat.{ℕ, zero, suc, _+_, _-_, _*_, _^_, _/_, _%_}
+use mathlib.Core.Path.{_≡_}
+use mathlib.Core.Bool.{Bool, true, false, cond, _&&_}
 use mathlib.Core.List.{List, [], _∷_, map}
-use lib.Dec.{eqb}
+use lib.Bits.{bitAnd}
+use lib.Dec.{eqb, leb, ltb}
 use lib.ListN.{getD, length}
 use Rattle.unit.specs.declared.Mps.{Mps}
 use Rattle.unit.specs.declared.Ups.{Ups}
+use Rattle.unit.specs.Proving.{upsCode}
 use Rattle.table6.specs.declared.State.{State}
 use Rattle.table6.specs.declared.Facts.{Facts}
 use Rattle.table6.specs.declared.Met.{Met}
-use Rattle.table6.specs.declared.effects.Change.{Change}
+use Rattle.table6.specs.declared.effects.Alternative.{Alternative}
 use Rattle.table6.specs.Words.{–, OOS, PO, INS, NM, ANS, MI, PE, PNS, LR, RR, SR, ALN, CC, CD, SREC, UDR, PDUT, SSCOP-UU, Parameter-Data}
 use Rattle.table6.specs.Cell.{T1, T2, T3, Told, Cond, LPO=0, LPO=0&INS=0, LPO=0&INS=1, UU=EM-or-NM, Source=User, BSNT-available, MU>4, holds, cell, chosen}
 use Rattle.table6.specs.Rows.{printed, Heading, heading}
-use Rattle.table6.specs.Summary.{Op, keep, put, over, Count, same, decided, less, Summary, Summed, refused, summed, sum}
+use Rattle.table6.specs.Summary.{Op, keep, put, over, Count, same, decided, less, Summary, still, with-mps, with-ups, with-c1, with-bsnt, Summed, refused, summed, sum}
 
 -- CELLS
 
@@ -28,48 +31,48 @@ place State.S2103 = 5
 place State.S2104 = 6
 place State.S3105 = 7
 
--- The codes of each row's cells, by place; 60 is Illegal.
+-- The codes of each row's cells, by place; 0 is Illegal.
 abbrev pub codes : List (List ℕ)
 codes =
-    (60 ∷ 60 ∷ 60 ∷ 60 ∷ 60 ∷ 60 ∷ 60 ∷ 0 ∷ [])  -- AAL-MESSAGE_FOR_TRANSMISSION-request
-    ∷ (1 ∷ 1 ∷ 1 ∷ 1 ∷ 1 ∷ 1 ∷ 1 ∷ 60 ∷ [])  -- AAL-EMERGENCY-request
-    ∷ (2 ∷ 2 ∷ 2 ∷ 2 ∷ 2 ∷ 2 ∷ 2 ∷ 60 ∷ [])  -- AAL-EMERGENCY_CEASES-request
-    ∷ (60 ∷ 60 ∷ 3 ∷ 4 ∷ 5 ∷ 6 ∷ 7 ∷ 8 ∷ [])  -- AAL-STOP-request
-    ∷ (9 ∷ 9 ∷ 60 ∷ 60 ∷ 60 ∷ 60 ∷ 60 ∷ 60 ∷ [])  -- AAL-START-request
-    ∷ (10 ∷ 10 ∷ 60 ∷ 60 ∷ 60 ∷ 60 ∷ 60 ∷ 60 ∷ [])  -- AAL-RETRIEVE_BSNT-request
-    ∷ (11 ∷ 11 ∷ 60 ∷ 60 ∷ 60 ∷ 60 ∷ 60 ∷ 60 ∷ [])  -- AAL-RETRIEVAL_REQUEST_AND_FSNC-request
-    ∷ (12 ∷ 12 ∷ 12 ∷ 12 ∷ 12 ∷ 12 ∷ 12 ∷ 12 ∷ [])  -- AAL-FLUSH_BUFFERS-request
-    ∷ (12 ∷ 12 ∷ 12 ∷ 12 ∷ 12 ∷ 12 ∷ 12 ∷ 12 ∷ [])  -- AAL-CONTINUE-request
-    ∷ (13 ∷ 60 ∷ 14 ∷ 60 ∷ 60 ∷ 60 ∷ 60 ∷ 60 ∷ [])  -- AA-ESTABLISH-indication
-    ∷ (60 ∷ 60 ∷ 60 ∷ 15 ∷ 60 ∷ 60 ∷ 60 ∷ 60 ∷ [])  -- AA-ESTABLISH-confirm
-    ∷ (60 ∷ 60 ∷ 60 ∷ 16 ∷ 60 ∷ 17 ∷ 16 ∷ 18 ∷ [])  -- AA-RELEASE-indication
-    ∷ (60 ∷ 19 ∷ 60 ∷ 60 ∷ 20 ∷ 60 ∷ 60 ∷ 60 ∷ [])  -- AA-RELEASE-confirm
-    ∷ (60 ∷ 60 ∷ 60 ∷ 60 ∷ 60 ∷ 21 ∷ 22 ∷ 23 ∷ [])  -- AA-DATA-indication, INS unit
-    ∷ (60 ∷ 60 ∷ 60 ∷ 60 ∷ 60 ∷ 24 ∷ 24 ∷ 23 ∷ [])  -- AA-DATA-indication, NM unit
-    ∷ (60 ∷ 60 ∷ 60 ∷ 60 ∷ 60 ∷ 24 ∷ 24 ∷ 24 ∷ [])  -- AA-DATA-indication, other unit or short
-    ∷ (60 ∷ 60 ∷ 60 ∷ 60 ∷ 60 ∷ 25 ∷ 26 ∷ 27 ∷ [])  -- AA-DATA-indication, long message
-    ∷ (60 ∷ 60 ∷ 60 ∷ 60 ∷ 60 ∷ 28 ∷ 29 ∷ 30 ∷ [])  -- AA-RESYNC-indication
-    ∷ (60 ∷ 60 ∷ 60 ∷ 60 ∷ 60 ∷ 28 ∷ 31 ∷ 31 ∷ [])  -- AA-RECOVER-indication
-    ∷ (32 ∷ 32 ∷ 32 ∷ 32 ∷ 32 ∷ 32 ∷ 32 ∷ 32 ∷ [])  -- AA-UNITDATA-indication
-    ∷ (33 ∷ 33 ∷ 60 ∷ 60 ∷ 60 ∷ 60 ∷ 60 ∷ 60 ∷ [])  -- AA-RETRIEVE-indication
-    ∷ (34 ∷ 34 ∷ 60 ∷ 60 ∷ 60 ∷ 60 ∷ 60 ∷ 60 ∷ [])  -- AA-RETRIEVE_COMPLETE-indication
-    ∷ (60 ∷ 60 ∷ 60 ∷ 60 ∷ 60 ∷ 35 ∷ 60 ∷ 60 ∷ [])  -- MAAL-PROVING_UNSUCCESSFUL-response
-    ∷ (12 ∷ 12 ∷ 36 ∷ 37 ∷ 38 ∷ 39 ∷ 37 ∷ 40 ∷ [])  -- MAAL-RELEASE-request
-    ∷ (41 ∷ 41 ∷ 41 ∷ 41 ∷ 41 ∷ 41 ∷ 42 ∷ 43 ∷ [])  -- MAAL-LOCAL_PROCESSOR_OUTAGE-request
-    ∷ (44 ∷ 44 ∷ 44 ∷ 44 ∷ 44 ∷ 44 ∷ 60 ∷ 60 ∷ [])  -- MAAL-LOCAL_PROCESSOR_RECOVERED-request
-    ∷ (45 ∷ 45 ∷ 45 ∷ 45 ∷ 45 ∷ 45 ∷ 45 ∷ 45 ∷ [])  -- MAAL-FORCE_PROVING-request
-    ∷ (46 ∷ 46 ∷ 46 ∷ 46 ∷ 46 ∷ 46 ∷ 46 ∷ 46 ∷ [])  -- MAAL-FORCE_EMERGENCY-request
-    ∷ (47 ∷ 47 ∷ 47 ∷ 47 ∷ 47 ∷ 47 ∷ 47 ∷ 47 ∷ [])  -- MAAL-CLEAR_FORCE_MODES-request
-    ∷ (12 ∷ 12 ∷ 12 ∷ 12 ∷ 12 ∷ 48 ∷ 49 ∷ 49 ∷ [])  -- Local Congestion
-    ∷ (12 ∷ 12 ∷ 12 ∷ 12 ∷ 50 ∷ 60 ∷ 51 ∷ 51 ∷ [])  -- Local Congestion Ceased
-    ∷ (60 ∷ 60 ∷ 52 ∷ 60 ∷ 60 ∷ 60 ∷ 60 ∷ 60 ∷ [])  -- T1 expires
-    ∷ (60 ∷ 60 ∷ 53 ∷ 54 ∷ 55 ∷ 56 ∷ 57 ∷ 60 ∷ [])  -- T2 expires
-    ∷ (60 ∷ 60 ∷ 60 ∷ 60 ∷ 60 ∷ 58 ∷ 60 ∷ 60 ∷ [])  -- T3 expires and C1 > 0
-    ∷ (60 ∷ 60 ∷ 60 ∷ 60 ∷ 60 ∷ 59 ∷ 60 ∷ 60 ∷ [])  -- T3 expires and C1 = 0
+    (0 ∷ 0 ∷ 0 ∷ 0 ∷ 0 ∷ 0 ∷ 0 ∷ 1 ∷ [])  -- AAL-MESSAGE_FOR_TRANSMISSION-request
+    ∷ (10 ∷ 10 ∷ 10 ∷ 10 ∷ 10 ∷ 10 ∷ 10 ∷ 0 ∷ [])  -- AAL-EMERGENCY-request
+    ∷ (10 ∷ 10 ∷ 10 ∷ 10 ∷ 10 ∷ 10 ∷ 10 ∷ 0 ∷ [])  -- AAL-EMERGENCY_CEASES-request
+    ∷ (0 ∷ 0 ∷ 2 ∷ 3 ∷ 4 ∷ 5 ∷ 6 ∷ 7 ∷ [])  -- AAL-STOP-request
+    ∷ (8 ∷ 8 ∷ 0 ∷ 0 ∷ 0 ∷ 0 ∷ 0 ∷ 0 ∷ [])  -- AAL-START-request
+    ∷ (44 ∷ 44 ∷ 0 ∷ 0 ∷ 0 ∷ 0 ∷ 0 ∷ 0 ∷ [])  -- AAL-RETRIEVE_BSNT-request
+    ∷ (9 ∷ 9 ∷ 0 ∷ 0 ∷ 0 ∷ 0 ∷ 0 ∷ 0 ∷ [])  -- AAL-RETRIEVAL_REQUEST_AND_FSNC-request
+    ∷ (10 ∷ 10 ∷ 10 ∷ 10 ∷ 10 ∷ 10 ∷ 10 ∷ 10 ∷ [])  -- AAL-FLUSH_BUFFERS-request
+    ∷ (10 ∷ 10 ∷ 10 ∷ 10 ∷ 10 ∷ 10 ∷ 10 ∷ 10 ∷ [])  -- AAL-CONTINUE-request
+    ∷ (46 ∷ 0 ∷ 58 ∷ 0 ∷ 0 ∷ 0 ∷ 0 ∷ 0 ∷ [])  -- AA-ESTABLISH-indication
+    ∷ (0 ∷ 0 ∷ 0 ∷ 56 ∷ 0 ∷ 0 ∷ 0 ∷ 0 ∷ [])  -- AA-ESTABLISH-confirm
+    ∷ (0 ∷ 0 ∷ 0 ∷ 50 ∷ 0 ∷ 52 ∷ 50 ∷ 54 ∷ [])  -- AA-RELEASE-indication
+    ∷ (0 ∷ 11 ∷ 0 ∷ 0 ∷ 12 ∷ 0 ∷ 0 ∷ 0 ∷ [])  -- AA-RELEASE-confirm
+    ∷ (0 ∷ 0 ∷ 0 ∷ 0 ∷ 0 ∷ 13 ∷ 14 ∷ 19 ∷ [])  -- AA-DATA-indication, INS unit
+    ∷ (0 ∷ 0 ∷ 0 ∷ 0 ∷ 0 ∷ 10 ∷ 10 ∷ 19 ∷ [])  -- AA-DATA-indication, NM unit
+    ∷ (0 ∷ 0 ∷ 0 ∷ 0 ∷ 0 ∷ 10 ∷ 10 ∷ 10 ∷ [])  -- AA-DATA-indication, other unit or short
+    ∷ (0 ∷ 0 ∷ 0 ∷ 0 ∷ 0 ∷ 17 ∷ 15 ∷ 16 ∷ [])  -- AA-DATA-indication, long message
+    ∷ (0 ∷ 0 ∷ 0 ∷ 0 ∷ 0 ∷ 17 ∷ 18 ∷ 19 ∷ [])  -- AA-RESYNC-indication
+    ∷ (0 ∷ 0 ∷ 0 ∷ 0 ∷ 0 ∷ 17 ∷ 20 ∷ 20 ∷ [])  -- AA-RECOVER-indication
+    ∷ (21 ∷ 21 ∷ 21 ∷ 21 ∷ 21 ∷ 21 ∷ 21 ∷ 21 ∷ [])  -- AA-UNITDATA-indication
+    ∷ (48 ∷ 48 ∷ 0 ∷ 0 ∷ 0 ∷ 0 ∷ 0 ∷ 0 ∷ [])  -- AA-RETRIEVE-indication
+    ∷ (22 ∷ 22 ∷ 0 ∷ 0 ∷ 0 ∷ 0 ∷ 0 ∷ 0 ∷ [])  -- AA-RETRIEVE_COMPLETE-indication
+    ∷ (0 ∷ 0 ∷ 0 ∷ 0 ∷ 0 ∷ 23 ∷ 0 ∷ 0 ∷ [])  -- MAAL-PROVING_UNSUCCESSFUL-response
+    ∷ (10 ∷ 10 ∷ 24 ∷ 25 ∷ 26 ∷ 27 ∷ 25 ∷ 28 ∷ [])  -- MAAL-RELEASE-request
+    ∷ (29 ∷ 29 ∷ 29 ∷ 29 ∷ 29 ∷ 29 ∷ 30 ∷ 31 ∷ [])  -- MAAL-LOCAL_PROCESSOR_OUTAGE-request
+    ∷ (32 ∷ 32 ∷ 32 ∷ 32 ∷ 32 ∷ 32 ∷ 0 ∷ 0 ∷ [])  -- MAAL-LOCAL_PROCESSOR_RECOVERED-request
+    ∷ (10 ∷ 10 ∷ 10 ∷ 10 ∷ 10 ∷ 10 ∷ 10 ∷ 10 ∷ [])  -- MAAL-FORCE_PROVING-request
+    ∷ (10 ∷ 10 ∷ 10 ∷ 10 ∷ 10 ∷ 10 ∷ 10 ∷ 10 ∷ [])  -- MAAL-FORCE_EMERGENCY-request
+    ∷ (10 ∷ 10 ∷ 10 ∷ 10 ∷ 10 ∷ 10 ∷ 10 ∷ 10 ∷ [])  -- MAAL-CLEAR_FORCE_MODES-request
+    ∷ (10 ∷ 10 ∷ 10 ∷ 10 ∷ 10 ∷ 33 ∷ 34 ∷ 34 ∷ [])  -- Local Congestion
+    ∷ (10 ∷ 10 ∷ 10 ∷ 10 ∷ 35 ∷ 0 ∷ 36 ∷ 36 ∷ [])  -- Local Congestion Ceased
+    ∷ (0 ∷ 0 ∷ 37 ∷ 0 ∷ 0 ∷ 0 ∷ 0 ∷ 0 ∷ [])  -- T1 expires
+    ∷ (0 ∷ 0 ∷ 38 ∷ 39 ∷ 40 ∷ 41 ∷ 42 ∷ 0 ∷ [])  -- T2 expires
+    ∷ (0 ∷ 0 ∷ 0 ∷ 0 ∷ 0 ∷ 43 ∷ 0 ∷ 0 ∷ [])  -- T3 expires and C1 > 0
+    ∷ (0 ∷ 0 ∷ 0 ∷ 0 ∷ 0 ∷ 60 ∷ 0 ∷ 0 ∷ [])  -- T3 expires and C1 = 0
     ∷ []
 
 abbrev pub no-row : List ℕ
-no-row = 60 ∷ 60 ∷ 60 ∷ 60 ∷ 60 ∷ 60 ∷ 60 ∷ 60 ∷ []
+no-row = 0 ∷ 0 ∷ 0 ∷ 0 ∷ 0 ∷ 0 ∷ 0 ∷ 0 ∷ []
 
 unfoldable pub rowOf : ℕ → List ℕ
 rowOf row = getD codes row no-row
@@ -77,33 +80,203 @@ rowOf row = getD codes row no-row
 unfoldable pub codeAt : ℕ → State → ℕ
 codeAt row s = getD (rowOf row) (place s) 0
 
--- CHANGES
+-- NUMBERS
 
-abbrev pub K : ℕ
-K = 9
+-- What a mask keeps: the state, the timers, the INS flag, LPO, UPS. What becomes 1 stands behind the mask of its kind.
+abbrev pub state : ℕ
+state = 7 * 8
 
-abbrev pub none : Change
-none = (K, K, K, K, K, K, K, K, K, K)
+abbrev pub t1 : ℕ
+t1 = 64
 
-abbrev pub flagOp : ℕ → Op Bool
-flagOp x = cond (eqb x K) keep (put (eqb x 1))
+abbrev pub t2 : ℕ
+t2 = 128
 
-abbrev pub mpsOp : ℕ → Op Mps
-mpsOp x = getD (put Mps.Neutral ∷ put Mps.Normal ∷ put Mps.Emergency ∷ []) x keep
+abbrev pub t3 : ℕ
+t3 = 256
 
-abbrev pub upsOp : ℕ → Op Ups
-upsOp x = getD (put Ups.Normal ∷ put Ups.Emergency ∷ []) x keep
+abbrev pub ins : ℕ
+ins = 4096
+
+abbrev pub lpo : ℕ
+lpo = 8192
+
+abbrev pub ups : ℕ
+ups = 65536
+
+-- What many cells share.
+abbrev pub kept : ℕ
+kept = state + t1 + t2 + t3 + ins + lpo + ups
+
+abbrev pub released : ℕ
+released = kept - state + 1 - ups
+
+abbrev pub out-of-service : ℕ
+out-of-service = kept - state - ups
+
+abbrev pub abandoned : ℕ
+abandoned = kept - state + 4
+
+abbrev pub awaits : ℕ
+awaits = kept - state + 2 - t1 + 8 * t1
+
+abbrev pub proves : ℕ
+proves = kept - state + 5 - ins - t3 + 8 * t3
+
+-- some words, by octets from the lowest
+abbrev pub octets : List ℕ → ℕ
+octets [] = 0
+octets (w ∷ ws) = w + 256 * octets ws
+
+-- what becomes of the link; how many words, and each
+abbrev pub number : ℕ → List ℕ → ℕ
+number change ws = change + 2 ^ 18 * length ws + 2 ^ 24 * octets ws
+
+-- The number of each code.
+abbrev pub numbers : List ℕ
+numbers =
+    0  -- Illegal
+    ∷ number kept (44 ∷ 18 ∷ [])  -- MESSG
+    ∷ number (out-of-service - t1 - t2) (19 ∷ 30 ∷ 31 ∷ [])  -- STOP3
+    ∷ number (released - t2) (5 ∷ 19 ∷ 31 ∷ [])  -- STOP4
+    ∷ number (released - t2) (19 ∷ 31 ∷ [])  -- STOP5
+    ∷ number (released - t2 - t3) (5 ∷ 25 ∷ 13 ∷ 31 ∷ 32 ∷ [])  -- STOP6
+    ∷ number (released - t2) (5 ∷ 25 ∷ 31 ∷ [])  -- STOP7
+    ∷ number released (5 ∷ 25 ∷ [])  -- STOP8
+    ∷ number (kept - state + 3 - t2 + 8 * t2) (38 ∷ 22 ∷ 34 ∷ [])  -- START
+    ∷ number kept (40 ∷ [])  -- FSNC_
+    ∷ number kept []  -- ALONE
+    ∷ number (kept - state + 0) []  -- RCNF2
+    ∷ number awaits (33 ∷ [])  -- RCNF5
+    ∷ number (kept - ins + 4 * ins) []  -- INS_6
+    ∷ number (kept - state + 7 - t2) (1 ∷ 21 ∷ 31 ∷ [])  -- INS_7
+    ∷ number abandoned (9 ∷ 24 ∷ [])  -- LONG7
+    ∷ number kept (42 ∷ [])  -- LONG8
+    ∷ number (abandoned - t3) (24 ∷ 9 ∷ 13 ∷ 32 ∷ [])  -- PERR6
+    ∷ number abandoned (24 ∷ 9 ∷ [])  -- RSYN7
+    ∷ number released (9 ∷ 2 ∷ 27 ∷ [])  -- PERR8
+    ∷ number kept (11 ∷ 16 ∷ [])  -- RECOV
+    ∷ number kept (17 ∷ [])  -- UDATA
+    ∷ number kept (3 ∷ [])  -- RCOMP
+    ∷ number (abandoned - t3) (10 ∷ 32 ∷ [])  -- PFAIL
+    ∷ number (out-of-service - t1 - t2) (2 ∷ 30 ∷ 31 ∷ [])  -- MREL3
+    ∷ number (released - t2) (8 ∷ 2 ∷ 31 ∷ [])  -- MREL4
+    ∷ number (released - t2) (2 ∷ 31 ∷ [])  -- MREL5
+    ∷ number (released - t2 - t3) (8 ∷ 2 ∷ 31 ∷ 32 ∷ [])  -- MREL6
+    ∷ number released (8 ∷ 2 ∷ [])  -- MREL8
+    ∷ number (kept - lpo + 4 * lpo) []  -- OUTG_
+    ∷ number (released - t2 - lpo + 4 * lpo) (6 ∷ 2 ∷ 31 ∷ [])  -- OUTG7
+    ∷ number (released - lpo + 4 * lpo) (6 ∷ 2 ∷ [])  -- OUTG8
+    ∷ number (kept - lpo) []  -- RCVRD
+    ∷ number (abandoned - t3) (10 ∷ 23 ∷ 13 ∷ 32 ∷ [])  -- CONG6
+    ∷ number kept (36 ∷ 15 ∷ [])  -- CONG_
+    ∷ number kept (14 ∷ [])  -- CEAS5
+    ∷ number kept (0 ∷ 14 ∷ [])  -- CEAS_
+    ∷ number (kept - state + 3 - t1) (38 ∷ [])  -- T1EX3
+    ∷ number (out-of-service - t1 - t2) (2 ∷ 26 ∷ 30 ∷ [])  -- T2EX3
+    ∷ number (released - t2) (7 ∷ 2 ∷ 26 ∷ [])  -- T2EX4
+    ∷ number (released - t2) (2 ∷ 20 ∷ [])  -- T2EX5
+    ∷ number (released - t2 - t3) (26 ∷ 13 ∷ 2 ∷ 7 ∷ 32 ∷ [])  -- T2EX6
+    ∷ number (released - t2) (26 ∷ 2 ∷ 7 ∷ [])  -- T2EX7
+    ∷ number (kept - t3 + 8 * t3) (45 ∷ 35 ∷ [])  -- T3PRV
+    ∷ number kept (37 ∷ [])  -- BSNT_
+    ∷ number kept (4 ∷ [])  -- BSNTN
+    ∷ number kept (6 ∷ [])  -- EIND1
+    ∷ number kept (5 ∷ [])  -- EIN1A
+    ∷ number kept (43 ∷ [])  -- RETRV
+    ∷ number kept []  -- RETRN
+    ∷ number awaits (41 ∷ 33 ∷ [])  -- RIND_
+    ∷ number awaits (28 ∷ 33 ∷ [])  -- RINDS
+    ∷ number (awaits - t3) (41 ∷ 13 ∷ 32 ∷ 33 ∷ [])  -- RIND6
+    ∷ number (awaits - t3) (28 ∷ 13 ∷ 32 ∷ 33 ∷ [])  -- RIN6S
+    ∷ number out-of-service (2 ∷ 41 ∷ [])  -- RIND8
+    ∷ number out-of-service (2 ∷ 29 ∷ [])  -- RIN8S
+    ∷ number proves (12 ∷ 35 ∷ [])  -- ECNF4
+    ∷ number (abandoned - ins) (9 ∷ 24 ∷ [])  -- ECN4N
+    ∷ number (proves - t1) (39 ∷ 12 ∷ 30 ∷ 35 ∷ [])  -- EIND3
+    ∷ number kept (9 ∷ 24 ∷ [])  -- EIN3N
+    ∷ number (released - t2 - t3) (6 ∷ 2 ∷ 25 ∷ 13 ∷ 31 ∷ [])  -- T3END
+    ∷ number (kept - state + 7 - t2 - t3) (13 ∷ 46 ∷ 21 ∷ 1 ∷ 31 ∷ [])  -- T3INS
+    ∷ number (kept - state + 6 - t3) (13 ∷ 46 ∷ [])  -- T3RDY
+    ∷ 0
+    ∷ []
+
+unfoldable pub numberAt : ℕ → ℕ
+numberAt c = getD numbers c 0
+
+-- WHAT A NUMBER DOES, BY MASKS
+
+abbrev pub stateAt : ℕ → State
+stateAt x =
+    getD (State.S111 ∷ State.S141 ∷ State.S212 ∷ State.S222 ∷ State.S242 ∷ State.S2103 ∷ State.S2104 ∷ []) (x % 8) State.S3105
+
+abbrev pub bitOf : Bool → ℕ
+bitOf b = cond b 1 0
+
+abbrev pub stateAfter : ℕ → State → State
+stateAfter n s = stateAt (bitAnd (place s) (n / 8 % 8) + n % 8)
+
+abbrev pub timersAfter : ℕ → Bool → Bool → Bool → ℕ
+timersAfter n a b c = bitAnd (bitOf a + 2 * bitOf b + 4 * bitOf c) (n / 64 % 8) + n / 512 % 8
+
+abbrev pub flagsAfter : ℕ → Bool → Bool → ℕ
+flagsAfter n a b = bitAnd (bitOf a + 2 * bitOf b) (n / 4096 % 4) + n / 16384 % 4
+
+abbrev pub upsAfter : ℕ → Ups → Ups
+upsAfter n u = getD (Ups.Normal ∷ []) (bitAnd (upsCode u) (n / 65536 % 2)) Ups.Emergency
+
+-- WHAT IT MEANS
+
+-- kept, or else 0 or 1
+abbrev pub flagOp : ℕ → ℕ → Op Bool
+flagOp k x = cond (eqb k 1) keep (put (eqb x 1))
 
 abbrev pub stateOp : ℕ → Op State
-stateOp x =
-    getD (put State.S111 ∷ put State.S141 ∷ put State.S212 ∷ put State.S222 ∷ put State.S242 ∷ put State.S2103 ∷ put State.S2104 ∷ put State.S3105 ∷ []) x keep
+stateOp n = cond (eqb (n / 8 % 8) 7) keep (put (stateAt (n % 8)))
 
-abbrev pub countOp : ℕ → Count
-countOp x = getD (decided ∷ less same ∷ []) x same
+abbrev pub upsOp : ℕ → Op Ups
+upsOp n = cond (eqb (n / 65536 % 2) 1) keep (put Ups.Normal)
 
-abbrev pub changed : Change → Summary
-changed c =
-    record { ins = flagOp (c .1); lpo = flagOp (c .2); mps = mpsOp (c .3); ups = upsOp (c .4); t1 = flagOp (c .5); t2 = flagOp (c .6); t3 = flagOp (c .7); c1 = countOp (c .8); bsnt = flagOp (c .9) }
+-- What the event of a row does by itself, in whatever state it is accepted.
+abbrev pub arrival : ℕ → Summary
+arrival row =
+    cond (eqb row 1) (with-ups (put Ups.Emergency) still)
+    (cond (eqb row 2) (with-ups (put Ups.Normal) still)
+    (cond (leb 13 row && leb row 16) (with-bsnt (put true) still)
+    (cond (eqb row 26) (with-mps (put Mps.Normal) still)
+    (cond (eqb row 27) (with-mps (put Mps.Emergency) still)
+    (cond (eqb row 28) (with-mps (put Mps.Neutral) still)
+    (cond (eqb row 33) (with-c1 (less same) still) still))))))
+
+-- one behind the other
+abbrev pub behind : {A : Type 0} → Op A → Op A → Op A
+behind a keep = a
+behind a (put x) = put x
+
+-- What a number does behind that, and a connection that comes up.
+abbrev pub changed : Summary → Bool → ℕ → Summary
+changed a up n =
+    record {
+      ins = flagOp (n / 4096 % 2) (n / 16384 % 2);
+      lpo = flagOp (n / 8192 % 2) (n / 32768 % 2);
+      mps = a .mps;
+      ups = behind (a .ups) (upsOp n);
+      t1 = flagOp (n / 64 % 2) (n / 512 % 2);
+      t2 = flagOp (n / 128 % 2) (n / 1024 % 2);
+      t3 = flagOp (n / 256 % 2) (n / 2048 % 2);
+      c1 = cond up decided (a .c1);
+      bsnt = cond up (put false) (a .bsnt);
+    }
+
+-- The masks do what the number means, in every state and with every timer, flag and UPS.
+pub record SoundNumber (n : ℕ) : Type 0 where
+  pub states : (s : State) → stateAfter n s ≡ over (stateOp n) s
+  pub first : (a b c : Bool) → eqb (timersAfter n a b c % 2) 1 ≡ over (flagOp (n / 64 % 2) (n / 512 % 2)) a
+  pub second : (a b c : Bool) → eqb (timersAfter n a b c / 2 % 2) 1 ≡ over (flagOp (n / 128 % 2) (n / 1024 % 2)) b
+  pub third : (a b c : Bool) → eqb (timersAfter n a b c / 4 % 2) 1 ≡ over (flagOp (n / 256 % 2) (n / 2048 % 2)) c
+  pub ins-flag : (a b : Bool) → eqb (flagsAfter n a b % 2) 1 ≡ over (flagOp (n / 4096 % 2) (n / 16384 % 2)) a
+  pub lpo-flag : (a b : Bool) → eqb (flagsAfter n a b / 2 % 2) 1 ≡ over (flagOp (n / 8192 % 2) (n / 32768 % 2)) b
+  pub user : (u : Ups) → upsAfter n u ≡ over (upsOp n) u
 
 -- SIGNALS
 
@@ -161,108 +334,55 @@ words =
 abbrev pub wordAt : ℕ → Told
 wordAt w = getD words w Told.MAAL-PROVING-indication
 
--- the number of some words: how many, and each, by octets from the lowest
-abbrev pub octets : List ℕ → ℕ
-octets [] = 0
-octets (w ∷ ws) = w + 256 * octets ws
-
-abbrev pub packed : List ℕ → ℕ
-packed ws = length ws + 256 * octets ws
-
 -- f at i and at the n - 1 numbers after it
 abbrev pub from {ℓ} : {A : Type ℓ} → (ℕ → A) → ℕ → ℕ → List A
 from f i zero = []
 from f i (suc n) = f i ∷ from f (suc i) n
 
--- the word number k
+-- how many words a number has, and its word number k
+abbrev pub wordCount : ℕ → ℕ
+wordCount n = n / 2 ^ 18 % 8
+
 abbrev pub octet : ℕ → ℕ → ℕ
-octet w k = w / 2 ^ (k * 8 + 8) % 256
+octet n k = n / 2 ^ (k * 8 + 24) % 256
 
 abbrev pub said : ℕ → List Told
-said w = map wordAt (from (octet w) 0 (w % 8))
+said n = map wordAt (from (octet n) 0 (wordCount n))
 
 -- CODES
 
--- What a code does: it is Illegal, or a change and words, or one of two by a condition.
+-- What a code does: a number, and whether a connection comes up, or one of two by a condition.
 pub data Ask : Type 0 where
-  refuses : Ask
-  gives : Change → List ℕ → Ask
+  gives : ℕ → Bool → Ask
   asks : Cond → Ask → Ask → Ask
 
-abbrev pub follow : Facts → Ask → Met
-follow f refuses = Met.Illegal
-follow f (gives c ws) = Met.Does c (packed ws)
-follow f (asks q y n) = cond (holds q f) (follow f y) (follow f n)
+-- the code of the alternative, and whether a connection comes up
+abbrev pub picked : Facts → Ask → Alternative
+picked f (gives c up) = (c, up)
+picked f (asks q y n) = cond (holds q f) (picked f y) (picked f n)
 
-abbrev pub effects : List Ask
-effects =
-    gives none (44 ∷ 18 ∷ [])  -- MESSG
-    ∷ gives (K, K, K, K, 1, K, K, K, K, K) []  -- EMERG
-    ∷ gives (K, K, K, K, 0, K, K, K, K, K) []  -- EMOFF
-    ∷ gives (0, K, K, K, 0, 0, 0, K, K, K) (19 ∷ 30 ∷ 31 ∷ [])  -- STOP3
-    ∷ gives (1, K, K, K, 0, K, 0, K, K, K) (5 ∷ 19 ∷ 31 ∷ [])  -- STOP4
-    ∷ gives (1, K, K, K, 0, K, 0, K, K, K) (19 ∷ 31 ∷ [])  -- STOP5
-    ∷ gives (1, K, K, K, 0, K, 0, 0, K, K) (5 ∷ 25 ∷ 13 ∷ 31 ∷ 32 ∷ [])  -- STOP6
-    ∷ gives (1, K, K, K, 0, K, 0, K, K, K) (5 ∷ 25 ∷ 31 ∷ [])  -- STOP7
-    ∷ gives (1, K, K, K, 0, K, K, K, K, K) (5 ∷ 25 ∷ [])  -- STOP8
-    ∷ gives (3, K, K, K, K, K, 1, K, K, K) (38 ∷ 22 ∷ 34 ∷ [])  -- START
-    ∷ asks BSNT-available (gives none (37 ∷ [])) (gives none (4 ∷ []))  -- BSNT_
-    ∷ gives none (40 ∷ [])  -- FSNC_
-    ∷ gives none []  -- IGNOR
-    ∷ asks LPO=0 (gives none (5 ∷ [])) (gives none (6 ∷ []))  -- EIND1
-    ∷ asks UU=EM-or-NM (gives (5, 0, K, K, K, 0, K, 1, 0, 0) (39 ∷ 12 ∷ 30 ∷ 35 ∷ [])) (gives none (9 ∷ 24 ∷ []))  -- EIND3
-    ∷ asks UU=EM-or-NM (gives (5, 0, K, K, K, K, K, 1, 0, 0) (12 ∷ 35 ∷ [])) (gives (4, 0, K, K, K, K, K, K, 0, 0) (9 ∷ 24 ∷ []))  -- ECNF4
-    ∷ asks Source=User (gives (2, K, K, K, K, 1, K, K, K, K) (41 ∷ 33 ∷ [])) (gives (2, K, K, K, K, 1, K, K, K, K) (28 ∷ 33 ∷ []))  -- RIND_
-    ∷ asks Source=User (gives (2, K, K, K, K, 1, K, 0, K, K) (41 ∷ 13 ∷ 32 ∷ 33 ∷ []))
-    (gives (2, K, K, K, K, 1, K, 0, K, K) (28 ∷ 13 ∷ 32 ∷ 33 ∷ []))  -- RIND6
-    ∷ asks Source=User (gives (0, K, K, K, 0, K, K, K, K, K) (2 ∷ 41 ∷ [])) (gives (0, K, K, K, 0, K, K, K, K, K) (2 ∷ 29 ∷ []))  -- RIND8
-    ∷ gives (0, K, K, K, K, K, K, K, K, K) []  -- RCNF2
-    ∷ gives (2, K, K, K, K, 1, K, K, K, K) (33 ∷ [])  -- RCNF5
-    ∷ gives (K, 1, K, K, K, K, K, K, K, 1) []  -- INS_6
-    ∷ gives (7, K, K, K, K, K, 0, K, K, 1) (1 ∷ 21 ∷ 31 ∷ [])  -- INS_7
-    ∷ gives (1, K, K, K, 0, K, K, K, K, 1) (9 ∷ 2 ∷ 27 ∷ [])  -- UNIT8
-    ∷ gives (K, K, K, K, K, K, K, K, K, 1) []  -- UNIT_
-    ∷ gives (4, K, K, K, K, K, K, 0, K, 1) (24 ∷ 9 ∷ 13 ∷ 32 ∷ [])  -- LONG6
-    ∷ gives (4, K, K, K, K, K, K, K, K, 1) (9 ∷ 24 ∷ [])  -- LONG7
-    ∷ gives (K, K, K, K, K, K, K, K, K, 1) (42 ∷ [])  -- LONG8
-    ∷ gives (4, K, K, K, K, K, K, 0, K, K) (24 ∷ 9 ∷ 13 ∷ 32 ∷ [])  -- RSYN6
-    ∷ gives (4, K, K, K, K, K, K, K, K, K) (24 ∷ 9 ∷ [])  -- RSYN7
-    ∷ gives (1, K, K, K, 0, K, K, K, K, K) (9 ∷ 2 ∷ 27 ∷ [])  -- RSYN8
-    ∷ gives none (11 ∷ 16 ∷ [])  -- RECOV
-    ∷ gives none (17 ∷ [])  -- UDATA
-    ∷ asks MU>4 (gives none (43 ∷ [])) (gives none [])  -- RETRV
-    ∷ gives none (3 ∷ [])  -- RCOMP
-    ∷ gives (4, K, K, K, K, K, K, 0, K, K) (10 ∷ 32 ∷ [])  -- PFAIL
-    ∷ gives (0, K, K, K, 0, 0, 0, K, K, K) (2 ∷ 30 ∷ 31 ∷ [])  -- MREL3
-    ∷ gives (1, K, K, K, 0, K, 0, K, K, K) (8 ∷ 2 ∷ 31 ∷ [])  -- MREL4
-    ∷ gives (1, K, K, K, 0, K, 0, K, K, K) (2 ∷ 31 ∷ [])  -- MREL5
-    ∷ gives (1, K, K, K, 0, K, 0, 0, K, K) (8 ∷ 2 ∷ 31 ∷ 32 ∷ [])  -- MREL6
-    ∷ gives (1, K, K, K, 0, K, K, K, K, K) (8 ∷ 2 ∷ [])  -- MREL8
-    ∷ gives (K, K, 1, K, K, K, K, K, K, K) []  -- OUTG_
-    ∷ gives (1, K, 1, K, 0, K, 0, K, K, K) (6 ∷ 2 ∷ 31 ∷ [])  -- OUTG7
-    ∷ gives (1, K, 1, K, 0, K, K, K, K, K) (6 ∷ 2 ∷ [])  -- OUTG8
-    ∷ gives (K, K, 0, K, K, K, K, K, K, K) []  -- RCVRD
-    ∷ gives (K, K, K, 1, K, K, K, K, K, K) []  -- FPROV
-    ∷ gives (K, K, K, 2, K, K, K, K, K, K) []  -- FEMER
-    ∷ gives (K, K, K, 0, K, K, K, K, K, K) []  -- FCLR_
-    ∷ gives (4, K, K, K, K, K, K, 0, K, K) (10 ∷ 23 ∷ 13 ∷ 32 ∷ [])  -- CONG6
-    ∷ gives none (36 ∷ 15 ∷ [])  -- CONG_
-    ∷ gives none (14 ∷ [])  -- CEAS5
-    ∷ gives none (0 ∷ 14 ∷ [])  -- CEAS_
-    ∷ gives (3, K, K, K, K, 0, K, K, K, K) (38 ∷ [])  -- T1EX3
-    ∷ gives (0, K, K, K, 0, 0, 0, K, K, K) (2 ∷ 26 ∷ 30 ∷ [])  -- T2EX3
-    ∷ gives (1, K, K, K, 0, K, 0, K, K, K) (7 ∷ 2 ∷ 26 ∷ [])  -- T2EX4
-    ∷ gives (1, K, K, K, 0, K, 0, K, K, K) (2 ∷ 20 ∷ [])  -- T2EX5
-    ∷ gives (1, K, K, K, 0, K, 0, 0, K, K) (26 ∷ 13 ∷ 2 ∷ 7 ∷ 32 ∷ [])  -- T2EX6
-    ∷ gives (1, K, K, K, 0, K, 0, K, K, K) (26 ∷ 2 ∷ 7 ∷ [])  -- T2EX7
-    ∷ gives (K, K, K, K, K, K, K, 1, 1, K) (45 ∷ 35 ∷ [])  -- T3PRV
-    ∷ asks LPO=0&INS=0 (gives (6, K, K, K, K, K, K, 0, K, K) (13 ∷ 46 ∷ []))
-    (asks LPO=0&INS=1 (gives (7, K, K, K, K, K, 0, 0, K, K) (13 ∷ 46 ∷ 21 ∷ 1 ∷ 31 ∷ []))
-    (gives (1, K, K, K, 0, K, 0, 0, K, K) (6 ∷ 2 ∷ 25 ∷ 13 ∷ 31 ∷ [])))  -- T3END
-    ∷ []
+-- From the first code that asks on, two alternatives follow each other, at the end of proving three.
+abbrev pub rare : ℕ → Ask
+rare c =
+    cond (ltb c 46) (asks BSNT-available (gives c false) (gives (c + 1) false))
+    (cond (ltb c 48) (asks LPO=0 (gives (c + 1) false) (gives c false))
+    (asks MU>4 (gives c false) (gives (c + 1) false)))
+
+abbrev pub asking : ℕ → Ask
+asking c =
+    cond (leb 60 c) (asks LPO=0&INS=0 (gives (c + 2) false) (asks LPO=0&INS=1 (gives (c + 1) false) (gives c false)))
+    (cond (leb 58 c) (asks UU=EM-or-NM (gives c true) (gives (c + 1) false))
+    (cond (leb 56 c) (asks UU=EM-or-NM (gives c true) (gives (c + 1) true))
+    (cond (leb 50 c) (asks Source=User (gives c false) (gives (c + 1) false)) (rare c))))
 
 unfoldable pub askAt : ℕ → Ask
-askAt c = getD effects c refuses
+askAt c = cond (ltb c 44) (gives c false) (asking c)
+
+abbrev pub doneBy : Alternative → Met
+doneBy p = Met.Does (numberAt (p .0 % 64)) (p .1)
+
+unfoldable pub metOf : ℕ → Facts → Met
+metOf c f = cond (eqb c 0) Met.Illegal (doneBy (picked f (askAt c)))
 
 -- WHAT THE CODE ANSWERS
 
@@ -273,6 +393,10 @@ meets h state f = sum (h .arrives) (chosen f (cell (printed f (h .row)) state))
 unfoldable pub met : ℕ → State → Facts → Summed
 met row = meets (heading row)
 
-abbrev pub metAs : State → Met → Summed
-metAs state Met.Illegal = refused
-metAs state (Met.Does c w) = summed (changed c) (said w) (over (stateOp (c .0)) state)
+abbrev pub metAs : ℕ → State → Met → Summed
+metAs row state Met.Illegal = refused
+metAs row state (Met.Does n up) = summed (changed (arrival row) up n) (said n) (over (stateOp n) state)
+
+abbrev pub Sound : Met → Type 0
+Sound Met.Illegal = Unit {0}
+Sound (Met.Does n up) = SoundNumber n

@@ -1,443 +1,549 @@
-// What each code of Table 6 does: to every field of a link, and which signals it emits, in their order.
+// What each code of Table 6 does, as one number: what becomes of a link, and which signals it emits, in their order.
 use crate::Facts;
 use crate::Met;
 use crate::cells;
 ghost use mathlib.Core.Path.{_≡_};
-ghost use mathlib.Core.List.{[], _∷_};
-ghost use Rattle.table6.specs.Stored.{askAt, follow, packed};
+ghost use mathlib.Core.Bool.{cond};
+ghost use Rattle.table6.specs.Stored.{numberAt, rare, askAt, picked, metOf};
 
-// Kept as it is.
-pub const K: u8 = 9;
+// The number, from its lowest bit: the next state; a mask that keeps the state, or none of it; for T1, T2 and T3 a mask of those that are kept as they
+// are, and those that run; the same for the INS flag and LPO; whether UPS is kept or becomes Normal; how many signals, and each in an octet.
+// So a link is altered by masks, with no branch.
+const TO_111: u64 = 0;
 
-pub const TO_111: u8 = 0;
+const TO_141: u64 = 1;
 
-pub const TO_141: u8 = 1;
+const TO_212: u64 = 2;
 
-pub const TO_212: u8 = 2;
+const TO_222: u64 = 3;
 
-pub const TO_222: u8 = 3;
+const TO_242: u64 = 4;
 
-pub const TO_242: u8 = 4;
+const TO_2103: u64 = 5;
 
-pub const TO_2103: u8 = 5;
+const TO_2104: u64 = 6;
 
-pub const TO_2104: u8 = 6;
+const TO_3105: u64 = 7;
 
-pub const TO_3105: u8 = 7;
+// What is kept: the state, the timers, the INS flag, LPO and UPS.
+const STATE: u64 = 7 * 8;
 
-// The INS flag, LPO and the timers.
-pub const OFF: u8 = 0;
+const T1: u64 = 64;
 
-pub const ON: u8 = 1;
+const T2: u64 = 128;
 
-pub const MPS_N: u8 = 0;
+const T3: u64 = 256;
 
-pub const MPS_NM: u8 = 1;
+const INS: u64 = 4096;
 
-pub const MPS_EM: u8 = 2;
+const LPO: u64 = 8192;
 
-pub const UPS_NM: u8 = 0;
+const UPS: u64 = 65536;
 
-pub const UPS_EM: u8 = 1;
+// What becomes 1.
+const T1_RUNS: u64 = 512;
 
-// C1 is decided by Table 7, or becomes one less.
-pub const DECIDED: u8 = 0;
+const T2_RUNS: u64 = 1024;
 
-pub const LESS: u8 = 1;
+const T3_RUNS: u64 = 2048;
 
-// BSNT becomes the number that came, or is not retrievable any more.
-pub const TAKEN: u8 = 1;
+const INS_1: u64 = 16384;
 
-pub const FORGOTTEN: u8 = 0;
+const LPO_1: u64 = 32768;
 
-// The next state; the INS flag, LPO, MPS, UPS; T1, T2, T3; C1, BSNT.
-pub struct Change(
-    pub u8,
-    pub u8,
-    pub u8,
-    pub u8,
-    pub u8,
-    pub u8,
-    pub u8,
-    pub u8,
-    pub u8,
-    pub u8,
-);
+// A signal more, and the places of the signals.
+const SAYS: u64 = 262144;
 
-const NOTHING: Change = Change(K, K, K, K, K, K, K, K, K, K);
+const FIRST: u64 = 16777216;
+
+const SECOND: u64 = 256 * FIRST;
+
+const THIRD: u64 = 256 * SECOND;
+
+const FOURTH: u64 = 256 * THIRD;
+
+const FIFTH: u64 = 256 * FOURTH;
+
+// What many cells share. Nothing is altered.
+const KEPT: u64 = STATE + T1 + T2 + T3 + INS + LPO + UPS;
+
+// The connection is released, and what the user wished is forgotten with it.
+const RELEASED: u64 = KEPT - STATE + TO_141 - UPS;
+
+// There is no connection, and the link is out of service.
+const OUT_OF_SERVICE: u64 = KEPT - STATE + TO_111 - UPS;
+
+// The connection is released while it is aligned or proved: another try follows.
+const ABANDONED: u64 = KEPT - STATE + TO_242;
+
+// The next try waits for T1.
+const AWAITS: u64 = KEPT - STATE + TO_212 - T1 + T1_RUNS;
+
+// A connection came up, and is proved.
+const PROVES: u64 = KEPT - STATE + TO_2103 - INS - T3 + T3_RUNS;
 
 // The signals that the table uses. First those that are known beforehand.
-pub const CONGESTION_CEASED: u8 = 0;
+pub const CONGESTION_CEASED: u64 = 0;
 
-pub const IN: u8 = 1;
+pub const IN: u64 = 1;
 
-pub const OUT: u8 = 2;
+pub const OUT: u64 = 2;
 
-pub const RETRIEVAL_COMPLETE: u8 = 3;
+pub const RETRIEVAL_COMPLETE: u64 = 3;
 
-pub const BSNT_NOT_RETRIEVABLE: u8 = 4;
+pub const BSNT_NOT_RETRIEVABLE: u64 = 4;
 
-pub const RELEASE_OOS: u8 = 5;
+pub const RELEASE_OOS: u64 = 5;
 
-pub const RELEASE_PO: u8 = 6;
+pub const RELEASE_PO: u64 = 6;
 
-pub const RELEASE_ANS: u8 = 7;
+pub const RELEASE_ANS: u64 = 7;
 
-pub const RELEASE_MI: u8 = 8;
+pub const RELEASE_MI: u64 = 8;
 
-pub const RELEASE_PE: u8 = 9;
+pub const RELEASE_PE: u64 = 9;
 
-pub const RELEASE_PNS: u8 = 10;
+pub const RELEASE_PNS: u64 = 10;
 
-pub const RECOVER_RESPONSE: u8 = 11;
+pub const RECOVER_RESPONSE: u64 = 11;
 
-pub const PROVE: u8 = 12;
+pub const PROVE: u64 = 12;
 
-pub const STOP: u8 = 13;
+pub const STOP: u64 = 13;
 
-pub const REPORT_CC: u8 = 14;
+pub const REPORT_CC: u64 = 14;
 
-pub const REPORT_CD: u8 = 15;
+pub const REPORT_CD: u64 = 15;
 
-pub const REPORT_SREC: u8 = 16;
+pub const REPORT_SREC: u64 = 16;
 
-pub const REPORT_UDR: u8 = 17;
+pub const REPORT_UDR: u64 = 17;
 
-pub const REPORT_PDUT: u8 = 18;
+pub const REPORT_PDUT: u64 = 18;
 
-pub const REPORT_OOS: u8 = 19;
+pub const REPORT_OOS: u64 = 19;
 
-pub const REPORT_OOS_ANS: u8 = 20;
+pub const REPORT_OOS_ANS: u64 = 20;
 
-pub const REPORT_INS: u8 = 21;
+pub const REPORT_INS: u64 = 21;
 
-pub const REPORT_ALN: u8 = 22;
+pub const REPORT_ALN: u64 = 22;
 
-pub const REPORT_LR_CD: u8 = 23;
+pub const REPORT_LR_CD: u64 = 23;
 
-pub const REPORT_LR_PE: u8 = 24;
+pub const REPORT_LR_PE: u64 = 24;
 
-pub const REPORT_LR_OOS: u8 = 25;
+pub const REPORT_LR_OOS: u64 = 25;
 
-pub const REPORT_LR_OOS_ANS: u8 = 26;
+pub const REPORT_LR_OOS_ANS: u64 = 26;
 
-pub const REPORT_LR_OOS_PE: u8 = 27;
+pub const REPORT_LR_OOS_PE: u64 = 27;
 
-pub const REPORT_SR: u8 = 28;
+pub const REPORT_SR: u64 = 28;
 
-pub const REPORT_SR_OOS: u8 = 29;
+pub const REPORT_SR_OOS: u64 = 29;
 
-pub const RESET_T1: u8 = 30;
+pub const RESET_T1: u64 = 30;
 
-pub const RESET_T2: u8 = 31;
+pub const RESET_T2: u64 = 31;
 
-pub const RESET_T3: u8 = 32;
+pub const RESET_T3: u64 = 32;
 
-pub const SET_T1: u8 = 33;
+pub const SET_T1: u64 = 33;
 
-pub const SET_T2: u8 = 34;
+pub const SET_T2: u64 = 34;
 
-pub const SET_T3: u8 = 35;
+pub const SET_T3: u64 = 35;
 
 // From here on a signal carries what the event or the link brings.
-pub const CARRYING: u8 = 36;
+pub const CARRYING: u64 = 36;
 
-pub const LINK_CONGESTED: u8 = 36;
+pub const LINK_CONGESTED: u64 = 36;
 
-pub const BSNT: u8 = 37;
+pub const BSNT: u64 = 37;
 
-pub const ESTABLISH_REQUEST: u8 = 38;
+pub const ESTABLISH_REQUEST: u64 = 38;
 
-pub const ESTABLISH_RESPONSE: u8 = 39;
+pub const ESTABLISH_RESPONSE: u64 = 39;
 
-pub const RETRIEVE_REQUEST: u8 = 40;
+pub const RETRIEVE_REQUEST: u64 = 40;
 
-pub const REPORT_RR_UU: u8 = 41;
+pub const REPORT_RR_UU: u64 = 41;
 
-pub const RECEIVED_MESSAGE: u8 = 42;
+pub const RECEIVED_MESSAGE: u64 = 42;
 
-pub const RETRIEVED_MESSAGES: u8 = 43;
+pub const RETRIEVED_MESSAGES: u64 = 43;
 
-pub const DATA: u8 = 44;
+pub const DATA: u64 = 44;
 
-pub const UNIT_NM: u8 = 45;
+pub const UNIT_NM: u64 = 45;
 
-pub const UNIT_INS: u8 = 46;
+pub const UNIT_INS: u64 = 46;
 
-// The signals of a code as one number: how many in its lowest octet, and then each in an octet, the first lowest.
-fn say0() -> u64
-    ensures { λ r. ⌜ r ≡ packed ([]) ⌝ }
-{
-    0
-}
+// What each code does.
+const MESSG: u64 = KEPT + 2 * SAYS + DATA * FIRST + REPORT_PDUT * SECOND;
 
-fn say1(a: u8) -> u64
-    ensures { λ r. ⌜ r ≡ packed (a ∷ []) ⌝ }
-{
-    1 + a as u64 * 256
-}
+const STOP3: u64 = OUT_OF_SERVICE - T1 - T2
+    + 3 * SAYS
+    + REPORT_OOS * FIRST
+    + RESET_T1 * SECOND
+    + RESET_T2 * THIRD;
 
-fn say2(a: u8, b: u8) -> u64
-    ensures { λ r. ⌜ r ≡ packed (a ∷ b ∷ []) ⌝ }
-{
-    2 + a as u64 * 256 + b as u64 * 65536
-}
+const STOP4: u64 = RELEASED - T2
+    + 3 * SAYS
+    + RELEASE_OOS * FIRST
+    + REPORT_OOS * SECOND
+    + RESET_T2 * THIRD;
 
-fn say3(a: u8, b: u8, c: u8) -> u64
-    ensures { λ r. ⌜ r ≡ packed (a ∷ b ∷ c ∷ []) ⌝ }
-{
-    3 + a as u64 * 256 + b as u64 * 65536 + c as u64 * 16777216
-}
+const STOP5: u64 = RELEASED - T2 + 2 * SAYS + REPORT_OOS * FIRST + RESET_T2 * SECOND;
 
-fn say4(a: u8, b: u8, c: u8, d: u8) -> u64
-    ensures { λ r. ⌜ r ≡ packed (a ∷ b ∷ c ∷ d ∷ []) ⌝ }
-{
-    4 + a as u64 * 256 + b as u64 * 65536 + c as u64 * 16777216 + d as u64 * 4294967296
-}
+const STOP6: u64 = RELEASED - T2 - T3
+    + 5 * SAYS
+    + RELEASE_OOS * FIRST
+    + REPORT_LR_OOS * SECOND
+    + STOP * THIRD
+    + RESET_T2 * FOURTH
+    + RESET_T3 * FIFTH;
 
-fn say5(a: u8, b: u8, c: u8, d: u8, e: u8) -> u64
-    ensures { λ r. ⌜ r ≡ packed (a ∷ b ∷ c ∷ d ∷ e ∷ []) ⌝ }
-{
-    5
-        + a as u64 * 256
-        + b as u64 * 65536
-        + c as u64 * 16777216
-        + d as u64 * 4294967296
-        + e as u64 * 1099511627776
-}
+const STOP7: u64 = RELEASED - T2
+    + 3 * SAYS
+    + RELEASE_OOS * FIRST
+    + REPORT_LR_OOS * SECOND
+    + RESET_T2 * THIRD;
 
-// What a code does to the link, and its signals, where the cell asks a condition by what the facts say. One match for all, so that a step branches once.
-pub(crate) fn does(code: u8, f: Facts) -> Met
-    ensures { λ r. ⌜ r ≡ follow f (askAt code) ⌝ }
+const STOP8: u64 = RELEASED + 2 * SAYS + RELEASE_OOS * FIRST + REPORT_LR_OOS * SECOND;
+
+const START: u64 = KEPT - STATE + TO_222 - T2
+    + T2_RUNS
+    + 3 * SAYS
+    + ESTABLISH_REQUEST * FIRST
+    + REPORT_ALN * SECOND
+    + SET_T2 * THIRD;
+
+const FSNC_: u64 = KEPT + SAYS + RETRIEVE_REQUEST * FIRST;
+
+const ALONE: u64 = KEPT;
+
+const RCNF2: u64 = KEPT - STATE + TO_111;
+
+const RCNF5: u64 = AWAITS + SAYS + SET_T1 * FIRST;
+
+const INS_6: u64 = KEPT - INS + INS_1;
+
+const INS_7: u64 = KEPT - STATE + TO_3105 - T2
+    + 3 * SAYS
+    + IN * FIRST
+    + REPORT_INS * SECOND
+    + RESET_T2 * THIRD;
+
+const LONG7: u64 = ABANDONED + 2 * SAYS + RELEASE_PE * FIRST + REPORT_LR_PE * SECOND;
+
+const LONG8: u64 = KEPT + SAYS + RECEIVED_MESSAGE * FIRST;
+
+const PERR6: u64 = ABANDONED - T3
+    + 4 * SAYS
+    + REPORT_LR_PE * FIRST
+    + RELEASE_PE * SECOND
+    + STOP * THIRD
+    + RESET_T3 * FOURTH;
+
+const RSYN7: u64 = ABANDONED + 2 * SAYS + REPORT_LR_PE * FIRST + RELEASE_PE * SECOND;
+
+const PERR8: u64 = RELEASED
+    + 3 * SAYS
+    + RELEASE_PE * FIRST
+    + OUT * SECOND
+    + REPORT_LR_OOS_PE * THIRD;
+
+const RECOV: u64 = KEPT + 2 * SAYS + RECOVER_RESPONSE * FIRST + REPORT_SREC * SECOND;
+
+const UDATA: u64 = KEPT + SAYS + REPORT_UDR * FIRST;
+
+const RCOMP: u64 = KEPT + SAYS + RETRIEVAL_COMPLETE * FIRST;
+
+const PFAIL: u64 = ABANDONED - T3 + 2 * SAYS + RELEASE_PNS * FIRST + RESET_T3 * SECOND;
+
+const MREL3: u64 = OUT_OF_SERVICE - T1 - T2
+    + 3 * SAYS
+    + OUT * FIRST
+    + RESET_T1 * SECOND
+    + RESET_T2 * THIRD;
+
+const MREL4: u64 = RELEASED - T2 + 3 * SAYS + RELEASE_MI * FIRST + OUT * SECOND + RESET_T2 * THIRD;
+
+const MREL5: u64 = RELEASED - T2 + 2 * SAYS + OUT * FIRST + RESET_T2 * SECOND;
+
+const MREL6: u64 = RELEASED - T2 - T3
+    + 4 * SAYS
+    + RELEASE_MI * FIRST
+    + OUT * SECOND
+    + RESET_T2 * THIRD
+    + RESET_T3 * FOURTH;
+
+const MREL8: u64 = RELEASED + 2 * SAYS + RELEASE_MI * FIRST + OUT * SECOND;
+
+const OUTG_: u64 = KEPT - LPO + LPO_1;
+
+const OUTG7: u64 = RELEASED - T2 - LPO
+    + LPO_1
+    + 3 * SAYS
+    + RELEASE_PO * FIRST
+    + OUT * SECOND
+    + RESET_T2 * THIRD;
+
+const OUTG8: u64 = RELEASED - LPO + LPO_1 + 2 * SAYS + RELEASE_PO * FIRST + OUT * SECOND;
+
+const RCVRD: u64 = KEPT - LPO;
+
+const CONG6: u64 = ABANDONED - T3
+    + 4 * SAYS
+    + RELEASE_PNS * FIRST
+    + REPORT_LR_CD * SECOND
+    + STOP * THIRD
+    + RESET_T3 * FOURTH;
+
+const CONG_: u64 = KEPT + 2 * SAYS + LINK_CONGESTED * FIRST + REPORT_CD * SECOND;
+
+const CEAS5: u64 = KEPT + SAYS + REPORT_CC * FIRST;
+
+const CEAS_: u64 = KEPT + 2 * SAYS + CONGESTION_CEASED * FIRST + REPORT_CC * SECOND;
+
+const T1EX3: u64 = KEPT - STATE + TO_222 - T1 + SAYS + ESTABLISH_REQUEST * FIRST;
+
+const T2EX3: u64 = OUT_OF_SERVICE - T1 - T2
+    + 3 * SAYS
+    + OUT * FIRST
+    + REPORT_LR_OOS_ANS * SECOND
+    + RESET_T1 * THIRD;
+
+const T2EX4: u64 = RELEASED - T2
+    + 3 * SAYS
+    + RELEASE_ANS * FIRST
+    + OUT * SECOND
+    + REPORT_LR_OOS_ANS * THIRD;
+
+const T2EX5: u64 = RELEASED - T2 + 2 * SAYS + OUT * FIRST + REPORT_OOS_ANS * SECOND;
+
+const T2EX6: u64 = RELEASED - T2 - T3
+    + 5 * SAYS
+    + REPORT_LR_OOS_ANS * FIRST
+    + STOP * SECOND
+    + OUT * THIRD
+    + RELEASE_ANS * FOURTH
+    + RESET_T3 * FIFTH;
+
+const T2EX7: u64 = RELEASED - T2
+    + 3 * SAYS
+    + REPORT_LR_OOS_ANS * FIRST
+    + OUT * SECOND
+    + RELEASE_ANS * THIRD;
+
+const T3PRV: u64 = KEPT - T3 + T3_RUNS + 2 * SAYS + UNIT_NM * FIRST + SET_T3 * SECOND;
+
+const BSNT_: u64 = KEPT + SAYS + BSNT * FIRST;
+
+const BSNTN: u64 = KEPT + SAYS + BSNT_NOT_RETRIEVABLE * FIRST;
+
+const EIND1: u64 = KEPT + SAYS + RELEASE_PO * FIRST;
+
+const EIN1A: u64 = KEPT + SAYS + RELEASE_OOS * FIRST;
+
+const RETRV: u64 = KEPT + SAYS + RETRIEVED_MESSAGES * FIRST;
+
+const RETRN: u64 = KEPT;
+
+const RIND_: u64 = AWAITS + 2 * SAYS + REPORT_RR_UU * FIRST + SET_T1 * SECOND;
+
+const RINDS: u64 = AWAITS + 2 * SAYS + REPORT_SR * FIRST + SET_T1 * SECOND;
+
+const RIND6: u64 = AWAITS - T3
+    + 4 * SAYS
+    + REPORT_RR_UU * FIRST
+    + STOP * SECOND
+    + RESET_T3 * THIRD
+    + SET_T1 * FOURTH;
+
+const RIN6S: u64 = AWAITS - T3
+    + 4 * SAYS
+    + REPORT_SR * FIRST
+    + STOP * SECOND
+    + RESET_T3 * THIRD
+    + SET_T1 * FOURTH;
+
+const RIND8: u64 = OUT_OF_SERVICE + 2 * SAYS + OUT * FIRST + REPORT_RR_UU * SECOND;
+
+const RIN8S: u64 = OUT_OF_SERVICE + 2 * SAYS + OUT * FIRST + REPORT_SR_OOS * SECOND;
+
+const ECNF4: u64 = PROVES + 2 * SAYS + PROVE * FIRST + SET_T3 * SECOND;
+
+const ECN4N: u64 = ABANDONED - INS + 2 * SAYS + RELEASE_PE * FIRST + REPORT_LR_PE * SECOND;
+
+const EIND3: u64 = PROVES - T1
+    + 4 * SAYS
+    + ESTABLISH_RESPONSE * FIRST
+    + PROVE * SECOND
+    + RESET_T1 * THIRD
+    + SET_T3 * FOURTH;
+
+const EIN3N: u64 = KEPT + 2 * SAYS + RELEASE_PE * FIRST + REPORT_LR_PE * SECOND;
+
+const T3END: u64 = RELEASED - T2 - T3
+    + 5 * SAYS
+    + RELEASE_PO * FIRST
+    + OUT * SECOND
+    + REPORT_LR_OOS * THIRD
+    + STOP * FOURTH
+    + RESET_T2 * FIFTH;
+
+const T3INS: u64 = KEPT - STATE + TO_3105 - T2 - T3
+    + 5 * SAYS
+    + STOP * FIRST
+    + UNIT_INS * SECOND
+    + REPORT_INS * THIRD
+    + IN * FOURTH
+    + RESET_T2 * FIFTH;
+
+const T3RDY: u64 = KEPT - STATE + TO_2104 - T3 + 2 * SAYS + STOP * FIRST + UNIT_INS * SECOND;
+
+// The number of a code, which is below 64. All arms are constants: the compiler makes a table of it, with no jump, and since all 64 are there no test.
+fn number(code: u8) -> u64
+    ensures { λ r. ⌜ r ≡ numberAt code ⌝ }
 {
     match code {
-        cells::MESSG => Met::Does(NOTHING, say2(DATA, REPORT_PDUT)),
-        cells::EMERG => Met::Does(Change(K, K, K, K, UPS_EM, K, K, K, K, K), say0()),
-        cells::EMOFF => Met::Does(Change(K, K, K, K, UPS_NM, K, K, K, K, K), say0()),
-        cells::STOP3 => Met::Does(
-            Change(TO_111, K, K, K, UPS_NM, OFF, OFF, K, K, K),
-            say3(REPORT_OOS, RESET_T1, RESET_T2),
-        ),
-        cells::STOP4 => Met::Does(
-            Change(TO_141, K, K, K, UPS_NM, K, OFF, K, K, K),
-            say3(RELEASE_OOS, REPORT_OOS, RESET_T2),
-        ),
-        cells::STOP5 => Met::Does(
-            Change(TO_141, K, K, K, UPS_NM, K, OFF, K, K, K),
-            say2(REPORT_OOS, RESET_T2),
-        ),
-        cells::STOP6 => Met::Does(
-            Change(TO_141, K, K, K, UPS_NM, K, OFF, OFF, K, K),
-            say5(RELEASE_OOS, REPORT_LR_OOS, STOP, RESET_T2, RESET_T3),
-        ),
-        cells::STOP7 => Met::Does(
-            Change(TO_141, K, K, K, UPS_NM, K, OFF, K, K, K),
-            say3(RELEASE_OOS, REPORT_LR_OOS, RESET_T2),
-        ),
-        cells::STOP8 => Met::Does(
-            Change(TO_141, K, K, K, UPS_NM, K, K, K, K, K),
-            say2(RELEASE_OOS, REPORT_LR_OOS),
-        ),
-        cells::START => Met::Does(
-            Change(TO_222, K, K, K, K, K, ON, K, K, K),
-            say3(ESTABLISH_REQUEST, REPORT_ALN, SET_T2),
-        ),
-        cells::BSNT_ => if f.bsnt {
-            Met::Does(NOTHING, say1(BSNT))
-        } else {
-            Met::Does(NOTHING, say1(BSNT_NOT_RETRIEVABLE))
-        },
-        cells::FSNC_ => Met::Does(NOTHING, say1(RETRIEVE_REQUEST)),
-        cells::IGNOR => Met::Does(NOTHING, say0()),
-        cells::EIND1 => if f.lpo {
-            Met::Does(NOTHING, say1(RELEASE_PO))
-        } else {
-            Met::Does(NOTHING, say1(RELEASE_OOS))
-        },
-        cells::EIND3 => if f.uu {
-            Met::Does(
-                Change(TO_2103, OFF, K, K, K, OFF, K, ON, DECIDED, FORGOTTEN),
-                say4(ESTABLISH_RESPONSE, PROVE, RESET_T1, SET_T3),
-            )
-        } else {
-            Met::Does(NOTHING, say2(RELEASE_PE, REPORT_LR_PE))
-        },
-        cells::ECNF4 => if f.uu {
-            Met::Does(
-                Change(TO_2103, OFF, K, K, K, K, K, ON, DECIDED, FORGOTTEN),
-                say2(PROVE, SET_T3),
-            )
-        } else {
-            Met::Does(
-                Change(TO_242, OFF, K, K, K, K, K, K, DECIDED, FORGOTTEN),
-                say2(RELEASE_PE, REPORT_LR_PE),
-            )
-        },
-        cells::RIND_ => if f.user {
-            Met::Does(
-                Change(TO_212, K, K, K, K, ON, K, K, K, K),
-                say2(REPORT_RR_UU, SET_T1),
-            )
-        } else {
-            Met::Does(
-                Change(TO_212, K, K, K, K, ON, K, K, K, K),
-                say2(REPORT_SR, SET_T1),
-            )
-        },
-        cells::RIND6 => if f.user {
-            Met::Does(
-                Change(TO_212, K, K, K, K, ON, K, OFF, K, K),
-                say4(REPORT_RR_UU, STOP, RESET_T3, SET_T1),
-            )
-        } else {
-            Met::Does(
-                Change(TO_212, K, K, K, K, ON, K, OFF, K, K),
-                say4(REPORT_SR, STOP, RESET_T3, SET_T1),
-            )
-        },
-        cells::RIND8 => if f.user {
-            Met::Does(
-                Change(TO_111, K, K, K, UPS_NM, K, K, K, K, K),
-                say2(OUT, REPORT_RR_UU),
-            )
-        } else {
-            Met::Does(
-                Change(TO_111, K, K, K, UPS_NM, K, K, K, K, K),
-                say2(OUT, REPORT_SR_OOS),
-            )
-        },
-        cells::RCNF2 => Met::Does(Change(TO_111, K, K, K, K, K, K, K, K, K), say0()),
-        cells::RCNF5 => Met::Does(Change(TO_212, K, K, K, K, ON, K, K, K, K), say1(SET_T1)),
-        cells::INS_6 => Met::Does(Change(K, ON, K, K, K, K, K, K, K, TAKEN), say0()),
-        cells::INS_7 => Met::Does(
-            Change(TO_3105, K, K, K, K, K, OFF, K, K, TAKEN),
-            say3(IN, REPORT_INS, RESET_T2),
-        ),
-        cells::UNIT8 => Met::Does(
-            Change(TO_141, K, K, K, UPS_NM, K, K, K, K, TAKEN),
-            say3(RELEASE_PE, OUT, REPORT_LR_OOS_PE),
-        ),
-        cells::UNIT_ => Met::Does(Change(K, K, K, K, K, K, K, K, K, TAKEN), say0()),
-        cells::LONG6 => Met::Does(
-            Change(TO_242, K, K, K, K, K, K, OFF, K, TAKEN),
-            say4(REPORT_LR_PE, RELEASE_PE, STOP, RESET_T3),
-        ),
-        cells::LONG7 => Met::Does(
-            Change(TO_242, K, K, K, K, K, K, K, K, TAKEN),
-            say2(RELEASE_PE, REPORT_LR_PE),
-        ),
-        cells::LONG8 => Met::Does(
-            Change(K, K, K, K, K, K, K, K, K, TAKEN),
-            say1(RECEIVED_MESSAGE),
-        ),
-        cells::RSYN6 => Met::Does(
-            Change(TO_242, K, K, K, K, K, K, OFF, K, K),
-            say4(REPORT_LR_PE, RELEASE_PE, STOP, RESET_T3),
-        ),
-        cells::RSYN7 => Met::Does(
-            Change(TO_242, K, K, K, K, K, K, K, K, K),
-            say2(REPORT_LR_PE, RELEASE_PE),
-        ),
-        cells::RSYN8 => Met::Does(
-            Change(TO_141, K, K, K, UPS_NM, K, K, K, K, K),
-            say3(RELEASE_PE, OUT, REPORT_LR_OOS_PE),
-        ),
-        cells::RECOV => Met::Does(NOTHING, say2(RECOVER_RESPONSE, REPORT_SREC)),
-        cells::UDATA => Met::Does(NOTHING, say1(REPORT_UDR)),
-        cells::RETRV => if f.long {
-            Met::Does(NOTHING, say1(RETRIEVED_MESSAGES))
-        } else {
-            Met::Does(NOTHING, say0())
-        },
-        cells::RCOMP => Met::Does(NOTHING, say1(RETRIEVAL_COMPLETE)),
-        cells::PFAIL => Met::Does(
-            Change(TO_242, K, K, K, K, K, K, OFF, K, K),
-            say2(RELEASE_PNS, RESET_T3),
-        ),
-        cells::MREL3 => Met::Does(
-            Change(TO_111, K, K, K, UPS_NM, OFF, OFF, K, K, K),
-            say3(OUT, RESET_T1, RESET_T2),
-        ),
-        cells::MREL4 => Met::Does(
-            Change(TO_141, K, K, K, UPS_NM, K, OFF, K, K, K),
-            say3(RELEASE_MI, OUT, RESET_T2),
-        ),
-        cells::MREL5 => Met::Does(
-            Change(TO_141, K, K, K, UPS_NM, K, OFF, K, K, K),
-            say2(OUT, RESET_T2),
-        ),
-        cells::MREL6 => Met::Does(
-            Change(TO_141, K, K, K, UPS_NM, K, OFF, OFF, K, K),
-            say4(RELEASE_MI, OUT, RESET_T2, RESET_T3),
-        ),
-        cells::MREL8 => Met::Does(
-            Change(TO_141, K, K, K, UPS_NM, K, K, K, K, K),
-            say2(RELEASE_MI, OUT),
-        ),
-        cells::OUTG_ => Met::Does(Change(K, K, ON, K, K, K, K, K, K, K), say0()),
-        cells::OUTG7 => Met::Does(
-            Change(TO_141, K, ON, K, UPS_NM, K, OFF, K, K, K),
-            say3(RELEASE_PO, OUT, RESET_T2),
-        ),
-        cells::OUTG8 => Met::Does(
-            Change(TO_141, K, ON, K, UPS_NM, K, K, K, K, K),
-            say2(RELEASE_PO, OUT),
-        ),
-        cells::RCVRD => Met::Does(Change(K, K, OFF, K, K, K, K, K, K, K), say0()),
-        cells::FPROV => Met::Does(Change(K, K, K, MPS_NM, K, K, K, K, K, K), say0()),
-        cells::FEMER => Met::Does(Change(K, K, K, MPS_EM, K, K, K, K, K, K), say0()),
-        cells::FCLR_ => Met::Does(Change(K, K, K, MPS_N, K, K, K, K, K, K), say0()),
-        cells::CONG6 => Met::Does(
-            Change(TO_242, K, K, K, K, K, K, OFF, K, K),
-            say4(RELEASE_PNS, REPORT_LR_CD, STOP, RESET_T3),
-        ),
-        cells::CONG_ => Met::Does(NOTHING, say2(LINK_CONGESTED, REPORT_CD)),
-        cells::CEAS5 => Met::Does(NOTHING, say1(REPORT_CC)),
-        cells::CEAS_ => Met::Does(NOTHING, say2(CONGESTION_CEASED, REPORT_CC)),
-        cells::T1EX3 => Met::Does(
-            Change(TO_222, K, K, K, K, OFF, K, K, K, K),
-            say1(ESTABLISH_REQUEST),
-        ),
-        cells::T2EX3 => Met::Does(
-            Change(TO_111, K, K, K, UPS_NM, OFF, OFF, K, K, K),
-            say3(OUT, REPORT_LR_OOS_ANS, RESET_T1),
-        ),
-        cells::T2EX4 => Met::Does(
-            Change(TO_141, K, K, K, UPS_NM, K, OFF, K, K, K),
-            say3(RELEASE_ANS, OUT, REPORT_LR_OOS_ANS),
-        ),
-        cells::T2EX5 => Met::Does(
-            Change(TO_141, K, K, K, UPS_NM, K, OFF, K, K, K),
-            say2(OUT, REPORT_OOS_ANS),
-        ),
-        cells::T2EX6 => Met::Does(
-            Change(TO_141, K, K, K, UPS_NM, K, OFF, OFF, K, K),
-            say5(REPORT_LR_OOS_ANS, STOP, OUT, RELEASE_ANS, RESET_T3),
-        ),
-        cells::T2EX7 => Met::Does(
-            Change(TO_141, K, K, K, UPS_NM, K, OFF, K, K, K),
-            say3(REPORT_LR_OOS_ANS, OUT, RELEASE_ANS),
-        ),
-        cells::T3PRV => Met::Does(
-            Change(K, K, K, K, K, K, K, ON, LESS, K),
-            say2(UNIT_NM, SET_T3),
-        ),
-        cells::T3END => if f.lpo {
-            Met::Does(
-                Change(TO_141, K, K, K, UPS_NM, K, OFF, OFF, K, K),
-                say5(RELEASE_PO, OUT, REPORT_LR_OOS, STOP, RESET_T2),
-            )
-        } else if f.ins {
-            Met::Does(
-                Change(TO_3105, K, K, K, K, K, OFF, OFF, K, K),
-                say5(STOP, UNIT_INS, REPORT_INS, IN, RESET_T2),
-            )
-        } else {
-            Met::Does(
-                Change(TO_2104, K, K, K, K, K, K, OFF, K, K),
-                say2(STOP, UNIT_INS),
-            )
-        },
-        _ => Met::Illegal,
+        cells::_____ => 0,
+        cells::MESSG => MESSG,
+        cells::STOP3 => STOP3,
+        cells::STOP4 => STOP4,
+        cells::STOP5 => STOP5,
+        cells::STOP6 => STOP6,
+        cells::STOP7 => STOP7,
+        cells::STOP8 => STOP8,
+        cells::START => START,
+        cells::FSNC_ => FSNC_,
+        cells::ALONE => ALONE,
+        cells::RCNF2 => RCNF2,
+        cells::RCNF5 => RCNF5,
+        cells::INS_6 => INS_6,
+        cells::INS_7 => INS_7,
+        cells::LONG7 => LONG7,
+        cells::LONG8 => LONG8,
+        cells::PERR6 => PERR6,
+        cells::RSYN7 => RSYN7,
+        cells::PERR8 => PERR8,
+        cells::RECOV => RECOV,
+        cells::UDATA => UDATA,
+        cells::RCOMP => RCOMP,
+        cells::PFAIL => PFAIL,
+        cells::MREL3 => MREL3,
+        cells::MREL4 => MREL4,
+        cells::MREL5 => MREL5,
+        cells::MREL6 => MREL6,
+        cells::MREL8 => MREL8,
+        cells::OUTG_ => OUTG_,
+        cells::OUTG7 => OUTG7,
+        cells::OUTG8 => OUTG8,
+        cells::RCVRD => RCVRD,
+        cells::CONG6 => CONG6,
+        cells::CONG_ => CONG_,
+        cells::CEAS5 => CEAS5,
+        cells::CEAS_ => CEAS_,
+        cells::T1EX3 => T1EX3,
+        cells::T2EX3 => T2EX3,
+        cells::T2EX4 => T2EX4,
+        cells::T2EX5 => T2EX5,
+        cells::T2EX6 => T2EX6,
+        cells::T2EX7 => T2EX7,
+        cells::T3PRV => T3PRV,
+        cells::BSNT_ => BSNT_,
+        cells::BSNTN => BSNTN,
+        cells::EIND1 => EIND1,
+        cells::EIN1A => EIN1A,
+        cells::RETRV => RETRV,
+        cells::RETRN => RETRN,
+        cells::RIND_ => RIND_,
+        cells::RINDS => RINDS,
+        cells::RIND6 => RIND6,
+        cells::RIN6S => RIN6S,
+        cells::RIND8 => RIND8,
+        cells::RIN8S => RIN8S,
+        cells::ECNF4 => ECNF4,
+        cells::ECN4N => ECN4N,
+        cells::EIND3 => EIND3,
+        cells::EIN3N => EIN3N,
+        cells::T3END => T3END,
+        cells::T3INS => T3INS,
+        cells::T3RDY => T3RDY,
+        63 => 0,
+        _ => 0,
     }
+}
+
+// How far an alternative is from the first: the first if the condition holds.
+fn or_next(holds: bool) -> u16
+    ensures { λ r. ⌜ r ≡ cond holds 0 1 ⌝ }
+{
+    if holds { 0 } else { 1 }
+}
+
+// The same at the end of proving, which asks for LPO and for the INS flag.
+fn ended(f: Facts) -> u16
+    ensures { λ r. ⌜ r ≡ cond (f .lpo) 0 (cond (f .ins) 1 2) ⌝ }
+{
+    if f.lpo {
+        0
+    } else if f.ins {
+        1
+    } else {
+        2
+    }
+}
+
+// The code of an alternative, and whether a connection comes up with it.
+struct Alternative(u16, bool);
+
+// Of the codes that ask for BSNT, for LPO alone, or for a message's length.
+fn seldom(code: u8, f: Facts) -> Alternative
+    ensures { λ r. ⌜ r ≡ picked f (rare code) ⌝ }
+{
+    if code < cells::EIND1 {
+        return Alternative(code as u16 + or_next(f.bsnt), false);
+    }
+    if code < cells::RETRV {
+        return Alternative(code as u16 + or_next(f.lpo), false);
+    }
+    Alternative(code as u16 + or_next(f.long), false)
+}
+
+// What the facts choose of a code's alternatives. The codes are told apart by ranges of more than one each: a code that is known by itself the compiler
+// would follow through the table of numbers, and make a jump of it.
+fn chosen(code: u8, f: Facts) -> Alternative
+    ensures { λ r. ⌜ r ≡ picked f (askAt code) ⌝ }
+{
+    if code < cells::BSNT_ {
+        return Alternative(code as u16, false);
+    }
+    if cells::T3END <= code {
+        return Alternative(code as u16 + ended(f), false);
+    }
+    if cells::EIND3 <= code {
+        return Alternative(code as u16 + or_next(f.uu), f.uu);
+    }
+    if cells::ECNF4 <= code {
+        return Alternative(code as u16 + or_next(f.uu), true);
+    }
+    if cells::RIND_ <= code {
+        return Alternative(code as u16 + or_next(f.user), false);
+    }
+    seldom(code, f)
+}
+
+// What a code does to the link, and its signals, where the cell asks a condition by what the facts say.
+pub(crate) fn does(code: u8, f: Facts) -> Met
+    ensures { λ r. ⌜ r ≡ metOf code f ⌝ }
+{
+    if code == cells::_____ {
+        return Met::Illegal;
+    }
+    let Alternative(c, up) = chosen(code, f);
+    Met::Does(number((c % 64) as u8), up)
 }

@@ -6,7 +6,7 @@ pub mod rows;
 pub mod signals;
 
 ghost use mathlib.Core.Path.{_≡_};
-ghost use Rattle.table6.specs.Stored.{metAs, met};
+ghost use Rattle.table6.specs.Stored.{metAs, met, Sound, stateAfter};
 
 // The states of Q.2140: S2103 is 2/10/3, and so on, in the order of document 01's codes.
 pub enum State {
@@ -39,13 +39,22 @@ pub struct Facts {
 // What an event meets.
 pub enum Met {
     Illegal,
-    // What it does to the link, and its signals, as effects.rt numbers them.
-    Does(effects::Change, u64),
+    // What it does to the link and its signals, as one number of effects.rt, and whether a connection comes up.
+    Does(u64, bool),
 }
 
 // The cell of a row and a state under these facts. A row that the table doesn't have is Illegal.
 pub fn cell(row: u8, state: State, facts: Facts) -> Met
-    ensures { λ r. ⌜ metAs state r ≡ met row state facts ⌝ }
+    ensures { λ r. ⌜ (metAs row state r ≡ met row state facts) × Sound r ⌝ }
 {
     effects::does(cells::code_at(row, state), facts)
+}
+
+// The state after the number of a cell.
+pub fn state_after(n: u64, s: State) -> State
+    ensures { λ r. ⌜ r ≡ stateAfter n s ⌝ }
+{
+    let kept = (n / 8 % 8) as u8;
+    let to = (n % 8) as u8;
+    cells::state_at((cells::column(s) as u8 & kept) + to)
 }

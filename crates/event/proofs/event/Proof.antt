@@ -12,17 +12,17 @@ shared-slice-read-match c = search needs
 number-requires : tie.Need-number-requires
 number-requires c κs = search needs
 
-shared-slice-read-t8 : tie.Need-shared-slice-read-t8
-shared-slice-read-t8 c = search needs
+shared-slice-read-t9 : tie.Need-shared-slice-read-t9
+shared-slice-read-t9 c = search needs
 
-shared-slice-read-t10 : tie.Need-shared-slice-read-t10
-shared-slice-read-t10 c = search needs
+shared-slice-read-t11 : tie.Need-shared-slice-read-t11
+shared-slice-read-t11 c = search needs
 
-shared-slice-read-t12 : tie.Need-shared-slice-read-t12
-shared-slice-read-t12 c = search needs
+shared-slice-read-t13 : tie.Need-shared-slice-read-t13
+shared-slice-read-t13 c = search needs
 
-shared-slice-read-t14 : tie.Need-shared-slice-read-t14
-shared-slice-read-t14 c = search needs
+shared-slice-read-t15 : tie.Need-shared-slice-read-t15
+shared-slice-read-t15 c = search needs
 
 message-requires : tie.Need-message-requires
 message-requires c κs = search needs
@@ -99,7 +99,7 @@ returns-13 c = rw (c .match .keys13)
 
 returns-14 : tie.Need-returns-14
 unfolding codedAt
-returns-14 c = rw (c .before .before .before .match .keys14, c .number2 .ensures, c .before .read .ensures, c .before .before .message .ensures)
+returns-14 c = rw (c .before .before .before .match .keys14, c .before .before .number2 .ensures, c .read .ensures, c .before .message .ensures)
 
 returns-15 : tie.Need-returns-15
 unfolding codedAt
@@ -178,13 +178,13 @@ event-spec =
     (tie.spec
     shared-slice-read-match
     number-requires
-    shared-slice-read-t8
-    shared-slice-read-t10
-    shared-slice-read-t12
-    shared-slice-read-t14
+    shared-slice-read-t9
+    shared-slice-read-t11
+    shared-slice-read-t13
+    shared-slice-read-t15
+    number-requires-2
     message-requires
     read-requires
-    number-requires-2
     shared-slice-read-wide
     shared-slice-read-wide-2
     wide-requires

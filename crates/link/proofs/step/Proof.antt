@@ -2,40 +2,44 @@
 use borrow.Author.Needs.{needs}
 use mathlib.Core.Path.{_≡_, refl, sym, ap, subst, _∙_}
 use Prim.Native.Nat.{ℕ}
+use mathlib.Core.Bool.{Bool}
 use Rattle.unit.specs.Answered.{accepted}
 use Rattle.table6.specs.declared.Met.{Met}
-use Rattle.table6.specs.declared.effects.Change.{Change}
 use Rattle.table6.specs.declared.Facts.{Facts}
-use Rattle.table6.specs.Summary.{over}
-use Rattle.table6.specs.Stored.{metAs, changed, stateOp, met}
+use Rattle.table6.specs.Stored.{metAs, met, Sound}
 use Rattle.link.specs.declared.Link.{Link}
 use Rattle.link.specs.declared.Event.{Event}
 use Rattle.link.specs.declared.View.{View}
 use Rattle.link.specs.declared.Said.{Said}
 use Rattle.link.specs.declared.Reply.{Reply}
-use Rattle.link.specs.Effect.{with-state}
 use Rattle.link.specs.Step.{Outcome, stepOf}
-use Rattle.link.specs.Stored.{viewOf, meetingOf, factsOf, summedUp, saidOf, signalsOf}
+use Rattle.link.specs.Stored.{viewOf, seenIn, factsOf, arrivedOf, appliedOf, saidOf, signalsOf}
 use Rattle.link.specs.Lent.{Turned}
-use Rattle.link.proofs.Performed.{outcomeOf, stepped}
+use Rattle.link.proofs.Arrivals.{acted, turned-down}
 use Rattle.link.proofs.step.Statement.{statement}
 use Rattle.link.proofs.step.Tie as tie
 
--- what was met gives the step's outcome, so a record and a reply that fit it are the step's
-met-so : (l : Link) (e : Event) (v : View) (f : Facts) {r s : Met} {k : Link} {reply : Reply} → r ≡ s → v ≡ viewOf e (l .c1) → f ≡ factsOf l v →
-    metAs (l .state) r ≡ met (v .0) (l .state) f → Turned l (outcomeOf l (meetingOf v) (metAs (l .state) s)) k reply → Turned l (stepOf l e) k reply
-met-so l e v f {r} {k = k} {reply = reply} er ev ef em t =
-    subst (λ (o : Outcome). Turned l o k reply) (ap (λ (x : Met). outcomeOf l (meetingOf v) (metAs (l .state) x)) (sym er) ∙ stepped l e v f r ev ef em) t
+-- what was met, in the words of the definitions
+met-so : (l : Link) (e : Event) {v : View} {a : Link} {f : Facts} {r s : Met} → v ≡ seenIn (viewOf e (l .c1)) → a ≡ arrivedOf (viewOf e (l .c1)) l → f ≡ factsOf a v →
+    r ≡ s → metAs (v .0) (l .state) r ≡ met (v .0) (l .state) f →
+    metAs (viewOf e (l .c1) .0) (l .state) s ≡ met (viewOf e (l .c1) .0) (l .state) (factsOf (arrivedOf (viewOf e (l .c1)) l) (seenIn (viewOf e (l .c1))))
+met-so l e {v = v} {a = a} {r = r} pv pa pf pr h = ap (metAs (viewOf e (l .c1) .0) (l .state)) (sym pr) ∙ ap (λ (w : View). metAs (w .0) (l .state) r) (sym pv) ∙ h
+    ∙ ap (met (v .0) (l .state)) (pf ∙ ap (λ (k : Link). factsOf k v) pa) ∙ ap (λ (w : View). met (w .0) (l .state) (factsOf (arrivedOf (viewOf e (l .c1)) l) w)) pv
 
 -- of a cell that is not Illegal
-says : (l : Link) (v : View) (c : Change) (w : ℕ) {k : Link} {s : Said} →
-    k ≡ with-state (over (stateOp (c .0)) (l .state)) (summedUp (changed c) (meetingOf v .param) (meetingOf v .number) l) → s ≡ saidOf w v l →
-    Turned l (outcomeOf l (meetingOf v) (metAs (l .state) (Met.Does c w))) k (Reply.Legal s)
-unfolding signalsOf
-says l v c w p q = record { left = p; said = ap (λ (x : Said). accepted (signalsOf x)) q }
+does : (l : Link) (e : Event) (n : ℕ) (up : Bool) {v : View} {a k : Link} {s : Said} → v ≡ seenIn (viewOf e (l .c1)) → a ≡ arrivedOf (viewOf e (l .c1)) l →
+    metAs (viewOf e (l .c1) .0) (l .state) (Met.Does n up) ≡ met (viewOf e (l .c1) .0) (l .state) (factsOf (arrivedOf (viewOf e (l .c1)) l) (seenIn (viewOf e (l .c1)))) →
+    k ≡ appliedOf n up (v .1) a → s ≡ saidOf n v a → Turned l (stepOf l e) k (Reply.Legal s)
+does l e n up {v = v} {a = a} {k = k} {s = s} pv pa h pk ps =
+    let x = pk ∙ ap (λ (w : View). appliedOf n up (w .1) a) pv ∙ ap (appliedOf n up (viewOf e (l .c1) .1)) pa in
+    let y = ps ∙ ap (λ (w : View). saidOf n w a) pv ∙ ap (saidOf n (seenIn (viewOf e (l .c1)))) pa in
+    subst (λ (o : Outcome). Turned l o k (Reply.Legal s)) (acted l e n up h) record { left = x; said = ap (λ (z : Said). accepted (signalsOf z)) y }
 
 view-of-requires : tie.Need-view-of-requires
 view-of-requires c κs = search needs
+
+arrived-requires : tie.Need-arrived-requires
+arrived-requires c κs = search needs
 
 facts-of-requires : tie.Need-facts-of-requires
 facts-of-requires c κs = search needs
@@ -46,11 +50,11 @@ cell-requires c κs = search needs
 enum-told : tie.Need-enum-told
 enum-told c = search needs
 
-enum-known-change : tie.Need-enum-known-change
-enum-known-change c = search needs
+enum-known-n : tie.Need-enum-known-n
+enum-known-n c = search needs
 
 applied-requires : tie.Need-applied-requires
-applied-requires c κs = search needs
+applied-requires c κs = subst Sound (c .before .n .given .1) (c .before .before .before .cell .ensures .1)
 
 saying-requires : tie.Need-saying-requires
 saying-requires c κs = search needs
@@ -59,28 +63,34 @@ returns : tie.Need-returns
 returns c =
     let d = c .before .before in
     let f = d .before in
-    let a = f .before .before .args in
-    met-so (a .l) (a .e) (f .before .view-of .result) (f .facts-of .result) (c .enum-told .given .1) (f .before .view-of .ensures) (f .facts-of .ensures) (d .cell .ensures)
+    let a = f .before .before .before .args in
+    subst (λ (o : Outcome). Turned (a .l) o (a .l) Reply.Illegal)
+    (turned-down (a .l) (a .e)
+    (met-so (a .l) (a .e) (f .before .before .view-of .ensures) (f .before .arrived .ensures) (f .facts-of .ensures) (c .enum-told .given .1) (d .cell .ensures .0)))
     record { left = refl; said = refl }
 
 returns-2 : tie.Need-returns-2
 returns-2 c =
+    let y = c .before .before .before .n in
     let d = c .before .before .before .before .before in
     let f = d .before in
-    let a = f .before .before .args in
-    let y = c .before .before .before .change in
-    met-so (a .l) (a .e) (f .before .view-of .result) (f .facts-of .result) (y .given .1) (f .before .view-of .ensures) (f .facts-of .ensures) (d .cell .ensures)
-    (says (a .l) (f .before .view-of .result) (y .given .0 .0) (y .given .0 .1 .0) (c .before .applied .ensures) (c .saying .ensures))
+    let a = f .before .before .before .args in
+    let v = f .before .before .view-of .ensures in
+    let w = f .before .arrived .ensures in
+    does (a .l) (a .e) (y .given .0 .0) (y .given .0 .1 .0) v w
+    (met-so (a .l) (a .e) v w (f .facts-of .ensures) (y .given .1) (d .cell .ensures .0))
+    (c .before .applied .ensures) (c .saying .ensures)
 
 pub step-spec : {M : Type 1} → statement M
 step-spec =
     tie.close
     (tie.spec
     view-of-requires
+    arrived-requires
     facts-of-requires
     cell-requires
     enum-told
-    enum-known-change
+    enum-known-n
     applied-requires
     saying-requires
     returns

@@ -1,11 +1,12 @@
 -- `signal::put_signal` meets its contract. Assumes nothing.
 use borrow.Author.Needs.{needs}
 use native.Mathlib.Omega.{arith}
-use mathlib.Core.Path.{_∙_}
+use mathlib.Core.Path.{ap, _∙_}
 use mathlib.Core.List.{List}
 use Prim.Native.Nat.{ℕ}
 use Rattle.table6.specs.Stored.{wordAt}
 use Rattle.link.specs.Stored.{meantBy}
+use Rattle.octet.specs.Octets.{over}
 use Rattle.event.specs.Frame.{linkAt, messageOf}
 use Rattle.signal.specs.SignalRecord.{signalOctets, Put}
 use Rattle.signal.specs.Writing.{fromCode, PutCode}
@@ -15,24 +16,14 @@ use Rattle.signal.proofs.put_signal.Tie as tie
 
 -- what is written from the code on is, with the front before it, the signal
 fronted : (c : tie.After-slice-known2) {d : List ℕ} {r : ℕ} →
-    let a = c .before .before .before .before .before .before .before .before .before .args in
+    let a = c .before .before .before .before .before .before .before .args in
     let m = messageOf (a .e .now) in
     PutCode (fromCode m (meantBy (a .said) (wordAt (a .w)))) (c .before .before .put .last .0) r d → Put (signalOctets (linkAt (a .e .now)) m (meantBy (a .said) (wordAt (a .w)))) (a .out .now) r d
 fronted c p =
-    let a = c .before .before .before .before .before .before .before .before .before .args in
-    with-front (a .e .now) (messageOf (a .e .now)) (meantBy (a .said) (wordAt (a .w))) (omega (arith, c .before .before .before .before .before .shared-slice-known3 .given 3)) (c .before .before .put .ensures) p
-
-array-read-t9 : tie.Need-array-read-t9
-array-read-t9 c = search needs
-
-array-read-t13 : tie.Need-array-read-t13
-array-read-t13 c = search needs
-
-shared-slice-read-t15 : tie.Need-shared-slice-read-t15
-shared-slice-read-t15 c = search needs
-
-shared-slice-read-t17 : tie.Need-shared-slice-read-t17
-shared-slice-read-t17 c = search needs
+    let s = c .before .before .before .before .before .before .before in
+    let a = s .args in
+    with-front (a .e .now) (messageOf (a .e .now)) (meantBy (a .said) (wordAt (a .w))) (omega (arith, c .before .before .before .before .before .shared-slice-known .given 3))
+    (c .before .before .put .ensures ∙ ap (λ (f : List ℕ). over f (a .out .now)) (s .pre .0)) p
 
 slice-aggregate-put : tie.Need-slice-aggregate-put
 slice-aggregate-put c = search needs
@@ -54,7 +45,7 @@ same-length c = search needs
 
 returns : tie.Need-returns
 returns c =
-    let a = c .before .before .before .before .before .before .before .before .before .before .before .before .before .before .before .args in
+    let a = c .before .before .before .before .before .before .before .before .before .before .before .before .before .args in
     fronted (c .before .before .before .before .before .before) (rw (c .before .before .before .fixed .ensures ∙ fixed-known (a .said) (messageOf (a .e .now)) (a .w) (c .before .before .before .before .before .if1 .taken)) at (c .before .before .put-fixed .ensures))
 
 same-length-2 : tie.Need-same-length-2
@@ -66,17 +57,4 @@ returns-2 c = fronted (c .before .before .before .before .before) (c .before .be
 pub put-signal-spec : {M : Type 1} → statement M
 put-signal-spec =
     tie.close
-    (tie.spec
-    array-read-t9
-    array-read-t13
-    shared-slice-read-t15
-    shared-slice-read-t17
-    slice-aggregate-put
-    put-requires
-    fixed-requires
-    put-fixed-requires
-    put-carrying-requires
-    same-length
-    returns
-    same-length-2
-    returns-2)
+    (tie.spec slice-aggregate-put put-requires fixed-requires put-fixed-requires put-carrying-requires same-length returns same-length-2 returns-2)

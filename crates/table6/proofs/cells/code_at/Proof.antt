@@ -1,22 +1,10 @@
 -- `table6::cells::code_at` meets its contract. Assumes nothing.
 use borrow.Author.Needs.{needs}
 use native.Mathlib.Omega.{arith}
-use Prim.Native.Nat.{_<_}
-use lib.Dec.{lit<}
-use Rattle.table6.specs.declared.State.{State}
-use Rattle.table6.specs.Stored.{place, codeAt}
+use Rattle.table6.specs.Stored.{codeAt}
+use Rattle.table6.proofs.Lists.{below}
 use Rattle.table6.proofs.cells.code_at.Statement.{statement}
 use Rattle.table6.proofs.cells.code_at.Tie as tie
-
-below : (s : State) → place s < 8
-below State.S111 = lit< tt
-below State.S141 = lit< tt
-below State.S212 = lit< tt
-below State.S222 = lit< tt
-below State.S242 = lit< tt
-below State.S2103 = lit< tt
-below State.S2104 = lit< tt
-below State.S3105 = lit< tt
 
 row-of-requires : tie.Need-row-of-requires
 row-of-requires c κs = search needs
