@@ -338,13 +338,13 @@ fn arrived(e: Event, l: Link) -> Link
     ensures { λ r. ⌜ r ≡ arrivedOf (viewOf e (l .c1)) l ⌝ }
 {
     match e {
-        Event::Emergency => with_ups(Ups::Emergency, l),
-        Event::EmergencyCeases => with_ups(Ups::Normal, l),
-        Event::Data(_, n) => with_bsnt(n, l),
-        Event::ForceProving => with_mps(Mps::Normal, l),
-        Event::ForceEmergency => with_mps(Mps::Emergency, l),
-        Event::ClearForceModes => with_mps(Mps::Neutral, l),
         Event::T3 => with_c1(one_less(l.c1), l),
+        Event::ClearForceModes => with_mps(Mps::Neutral, l),
+        Event::ForceEmergency => with_mps(Mps::Emergency, l),
+        Event::ForceProving => with_mps(Mps::Normal, l),
+        Event::Data(_, n) => with_bsnt(n, l),
+        Event::EmergencyCeases => with_ups(Ups::Normal, l),
+        Event::Emergency => with_ups(Ups::Emergency, l),
         _ => l,
     }
 }

@@ -7,8 +7,6 @@ use Rattle.unit.proofs.decode.Kinds as decode-kinds
 use Rattle.unit.proofs.decode.Reads as decode
 use Rattle.unit.proofs.write.Kinds as write-kinds
 use Rattle.unit.proofs.write.Reads as write
-use Rattle.unit.proofs.kind_of.Kinds as kind-of-kinds
-use Rattle.unit.proofs.kind_of.Reads as kind-of
 use Rattle.unit.proofs.read.Kinds as read-kinds
 use Rattle.unit.proofs.read.Reads as read
 use Rattle.unit.proofs.Mps.code.Kinds as mps-code-kinds
@@ -34,9 +32,6 @@ decode-one κs arguments x y e f = equal
 
 pub write-one : OneAnswer write-kinds.ps write-kinds.r write.Post
 write-one κs arguments x y e f = equal
-
-pub kind-of-one : OneAnswer kind-of-kinds.ps kind-of-kinds.r kind-of.Post
-kind-of-one κs arguments x y e f = equal
 
 pub read-one : OneAnswer read-kinds.ps read-kinds.r read.Post
 read-one κs arguments x y e f = equal

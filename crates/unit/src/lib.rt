@@ -1,6 +1,6 @@
 // Clause 10 of Q.2140 and its Tables 7 and 8: the four-octet units that two peers exchange, and how many of them prove a link.
 ghost use mathlib.Core.Path.{_≡_};
-ghost use Rattle.unit.specs.Unit.{code, decoded, unitOf, kind, arrived};
+ghost use Rattle.unit.specs.Unit.{code, decoded, unitOf, arrived};
 ghost use Rattle.unit.specs.Proving.{mpsCode, upsCode, asked, table7, table8};
 
 // The codes of the status field, as clause 10 lists them.
@@ -94,27 +94,24 @@ pub enum Arrived {
     Long,
 }
 
-fn kind_of(status: u8) -> Arrived
-    ensures { λ r. ⌜ r ≡ kind status ⌝ }
-{
-    match status {
-        NM => Arrived::NM,
-        INS => Arrived::INS,
-        _ => Arrived::Other(status),
-    }
-}
-
 // Reads a message that arrived. The reserved octets are not looked at.
 pub fn read(message: &[u8]) -> Arrived
     ensures { λ r. ⌜ r ≡ arrived (now (message .entry)) ⌝ }
 {
-    if message.len() < 4 {
-        return Arrived::Short;
-    }
     if 4 < message.len() {
         return Arrived::Long;
     }
-    kind_of(message[3])
+    if message.len() < 4 {
+        return Arrived::Short;
+    }
+    let status = message[3];
+    if status == NM {
+        return Arrived::NM;
+    }
+    if status == INS {
+        return Arrived::INS;
+    }
+    Arrived::Other(status)
 }
 
 // Management_Proving_Status: what layer management forces.

@@ -77,14 +77,29 @@ as-it-was event.T3 l h = absurd (miss others 30 tt h)
 enum-told : tie.Need-enum-told
 enum-told c = search needs
 
-with-ups-requires : tie.Need-with-ups-requires
-with-ups-requires c κs = search needs
+one-less-requires : tie.Need-one-less-requires
+one-less-requires c κs = search needs
+
+with-c1-requires : tie.Need-with-c1-requires
+with-c1-requires c κs = search needs
 
 enum-told-2 : tie.Need-enum-told-2
 enum-told-2 c = search needs
 
-with-ups-requires-2 : tie.Need-with-ups-requires-2
-with-ups-requires-2 c κs = search needs
+with-mps-requires : tie.Need-with-mps-requires
+with-mps-requires c κs = search needs
+
+enum-told-3 : tie.Need-enum-told-3
+enum-told-3 c = search needs
+
+with-mps-requires-2 : tie.Need-with-mps-requires-2
+with-mps-requires-2 c κs = search needs
+
+enum-told-4 : tie.Need-enum-told-4
+enum-told-4 c = search needs
+
+with-mps-requires-3 : tie.Need-with-mps-requires-3
+with-mps-requires-3 c κs = search needs
 
 enum-known-e : tie.Need-enum-known-e
 enum-known-e c = search needs
@@ -92,58 +107,43 @@ enum-known-e c = search needs
 with-bsnt-requires : tie.Need-with-bsnt-requires
 with-bsnt-requires c κs = search needs
 
-enum-told-3 : tie.Need-enum-told-3
-enum-told-3 c = search needs
-
-with-mps-requires : tie.Need-with-mps-requires
-with-mps-requires c κs = search needs
-
-enum-told-4 : tie.Need-enum-told-4
-enum-told-4 c = search needs
-
-with-mps-requires-2 : tie.Need-with-mps-requires-2
-with-mps-requires-2 c κs = search needs
-
 enum-told-5 : tie.Need-enum-told-5
 enum-told-5 c = search needs
 
-with-mps-requires-3 : tie.Need-with-mps-requires-3
-with-mps-requires-3 c κs = search needs
+with-ups-requires : tie.Need-with-ups-requires
+with-ups-requires c κs = search needs
 
 enum-told-6 : tie.Need-enum-told-6
 enum-told-6 c = search needs
 
-one-less-requires : tie.Need-one-less-requires
-one-less-requires c κs = search needs
-
-with-c1-requires : tie.Need-with-c1-requires
-with-c1-requires c κs = search needs
+with-ups-requires-2 : tie.Need-with-ups-requires-2
+with-ups-requires-2 c κs = search needs
 
 returns : tie.Need-returns
-returns c = c .with-ups .ensures ∙ at (c .before .before .before .args .l) (c .before .enum-told .given .1)
+returns c =
+    let l = c .before .before .before .before .args .l in
+    c .with-c1 .ensures ∙ ap (λ (k : ℕ). with-c1 k l) (c .before .one-less .ensures) ∙ t3-arrived (eqb (l .c1) 0) l refl ∙ at l (c .before .before .enum-told .given .1)
 
 returns-2 : tie.Need-returns-2
-returns-2 c = c .with-ups2 .ensures ∙ at (c .before .before .before .args .l) (c .before .enum-told2 .given .1)
+returns-2 c = c .with-mps .ensures ∙ at (c .before .before .before .args .l) (c .before .enum-told2 .given .1)
 
 returns-3 : tie.Need-returns-3
-returns-3 c =
+returns-3 c = c .with-mps2 .ensures ∙ at (c .before .before .before .args .l) (c .before .enum-told3 .given .1)
+
+returns-4 : tie.Need-returns-4
+returns-4 c = c .with-mps3 .ensures ∙ at (c .before .before .before .args .l) (c .before .enum-told4 .given .1)
+
+returns-5 : tie.Need-returns-5
+returns-5 c =
     let e = c .before .before .e .given in
     let l = c .before .before .before .before .args .l in
     c .with-bsnt .ensures ∙ data-arrived (e .0 .0) (e .0 .1 .0) l ∙ at l (e .1)
 
-returns-4 : tie.Need-returns-4
-returns-4 c = c .with-mps .ensures ∙ at (c .before .before .before .args .l) (c .before .enum-told3 .given .1)
-
-returns-5 : tie.Need-returns-5
-returns-5 c = c .with-mps2 .ensures ∙ at (c .before .before .before .args .l) (c .before .enum-told4 .given .1)
-
 returns-6 : tie.Need-returns-6
-returns-6 c = c .with-mps3 .ensures ∙ at (c .before .before .before .args .l) (c .before .enum-told5 .given .1)
+returns-6 c = c .with-ups .ensures ∙ at (c .before .before .before .args .l) (c .before .enum-told5 .given .1)
 
 returns-7 : tie.Need-returns-7
-returns-7 c =
-    let l = c .before .before .before .before .args .l in
-    c .with-c1 .ensures ∙ ap (λ (k : ℕ). with-c1 k l) (c .before .one-less .ensures) ∙ t3-arrived (eqb (l .c1) 0) l refl ∙ at l (c .before .before .enum-told6 .given .1)
+returns-7 c = c .with-ups2 .ensures ∙ at (c .before .before .before .args .l) (c .before .enum-told6 .given .1)
 
 returns-8 : tie.Need-returns-8
 returns-8 c = as-it-was (c .before .args .e) (c .before .args .l) (c .match .keys8)
@@ -153,20 +153,20 @@ arrived-spec =
     tie.close
     (tie.spec
     enum-told
-    with-ups-requires
-    enum-told-2
-    with-ups-requires-2
-    enum-known-e
-    with-bsnt-requires
-    enum-told-3
-    with-mps-requires
-    enum-told-4
-    with-mps-requires-2
-    enum-told-5
-    with-mps-requires-3
-    enum-told-6
     one-less-requires
     with-c1-requires
+    enum-told-2
+    with-mps-requires
+    enum-told-3
+    with-mps-requires-2
+    enum-told-4
+    with-mps-requires-3
+    enum-known-e
+    with-bsnt-requires
+    enum-told-5
+    with-ups-requires
+    enum-told-6
+    with-ups-requires-2
     returns
     returns-2
     returns-3
