@@ -216,7 +216,7 @@ fn facts_of(l: Link, v: View) -> Facts
     }
 }
 
-// The record with one thing altered. BSNT goes octet by octet: copied as one it would be packed and unpacked on the way.
+// The record with one thing altered. It is made anew field by field, and BSNT octet by octet: a copy that is then altered would be kept in memory (D63).
 fn with_bsnt(n: Num, l: Link) -> Link
     ensures { λ r. ⌜ r ≡ with-bsnt (taken n) l ⌝ }
 {
@@ -435,7 +435,7 @@ fn applied(n: u64, up: bool, field: u8, l: Link) -> Link
     }
 }
 
-// What a step says: the signals of its cell, and what they take from the event and from the link as the event found it.
+// What a step says: the signals of its cell, and what they take from the event and from the link. What an event altered by itself none of its signals takes.
 pub struct Said {
     // The number of the cell, which has its signals, as effects.rt of table6 has it.
     pub words: u64,
