@@ -76,6 +76,7 @@ pub fn event(e: &[u8]) -> Event
         },
         events::RELEASE_CONFIRM => Event::ReleaseConfirm,
         events::DATA_INDICATION => {
+            // The number first: behind the branches of `read` it would be read three times over.
             let n = number(e);
             Event::Data(unit::read(message(e)), n)
         }

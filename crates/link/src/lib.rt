@@ -2,7 +2,6 @@
 use table6::Facts;
 use table6::Met;
 use table6::State;
-use table6::effects;
 use table6::rows;
 use unit::Arrived;
 use unit::Mps;
@@ -121,7 +120,8 @@ pub struct Signal {
 
 const ZERO: Num = Num { a: 0, b: 0, c: 0 };
 
-// An event as Table 6 meets it: its row, and the parameter, the number, the source of a release and the length of a message that it brings.
+// An event as Table 6 meets it: its row, and the parameter, the number, the source of a release and the length of a message that it brings. The number of
+// DATA goes to BSNT, and is left out.
 // Read by these names; a tuple, so that `view_of` has a line an event (D63).
 pub struct View(pub u8, pub u8, pub Num, pub u8, pub u16);
 
@@ -333,7 +333,7 @@ fn one_less(c: u16) -> u16
     if c == 0 { 0 } else { c - 1 }
 }
 
-// What an event does to the link by itself, in whatever state it is accepted.
+// What an event does to the link by itself, in whatever state it is accepted. The order of the arms decides where the code lies, and with it some time (D63).
 fn arrived(e: Event, l: Link) -> Link
     ensures { λ r. ⌜ r ≡ arrivedOf (viewOf e (l .c1)) l ⌝ }
 {

@@ -362,8 +362,8 @@ picked f (gives c up) = (c, up)
 picked f (asks q y n) = cond (holds q f) (picked f y) (picked f n)
 
 -- From the first code that asks on, two alternatives follow each other, at the end of proving three.
-abbrev pub rare : ℕ → Ask
-rare c =
+abbrev pub seldomAsks : ℕ → Ask
+seldomAsks c =
     cond (ltb c 46) (asks BSNT-available (gives c false) (gives (c + 1) false))
     (cond (ltb c 48) (asks LPO=0 (gives (c + 1) false) (gives c false))
     (asks MU>4 (gives c false) (gives (c + 1) false)))
@@ -373,7 +373,7 @@ asking c =
     cond (leb 60 c) (asks LPO=0&INS=0 (gives (c + 2) false) (asks LPO=0&INS=1 (gives (c + 1) false) (gives c false)))
     (cond (leb 58 c) (asks UU=EM-or-NM (gives c true) (gives (c + 1) false))
     (cond (leb 56 c) (asks UU=EM-or-NM (gives c true) (gives (c + 1) true))
-    (cond (leb 50 c) (asks Source=User (gives c false) (gives (c + 1) false)) (rare c))))
+    (cond (leb 50 c) (asks Source=User (gives c false) (gives (c + 1) false)) (seldomAsks c))))
 
 unfoldable pub askAt : ℕ → Ask
 askAt c = cond (ltb c 44) (gives c false) (asking c)

@@ -4,11 +4,11 @@ use crate::Met;
 use crate::cells;
 ghost use mathlib.Core.Path.{_≡_};
 ghost use mathlib.Core.Bool.{cond};
-ghost use Rattle.table6.specs.Stored.{numberAt, rare, askAt, picked, metOf};
+ghost use Rattle.table6.specs.Stored.{numberAt, seldomAsks, askAt, picked, metOf};
 
-// The number, from its lowest bit: the next state; a mask that keeps the state, or none of it; for T1, T2 and T3 a mask of those that are kept as they
-// are, and those that run; the same for the INS flag and LPO; whether UPS is kept or becomes Normal; how many signals, and each in an octet.
-// So a link is altered by masks, with no branch.
+// The number, from its lowest bit: the next state (bits 0 to 2); a mask that keeps the state, or none of it (3 to 5); of T1, T2 and T3 those that are kept
+// as they are (6 to 8) and those that run (9 to 11); the same of the INS flag and LPO (12, 13 and 14, 15); whether UPS is kept or becomes Normal (16); how
+// many signals (18 to 20), and each in an octet (from 24 on). So state, timers, flags and UPS are altered by masks, with no branch.
 const TO_111: u64 = 0;
 
 const TO_141: u64 = 1;
@@ -498,12 +498,12 @@ fn ended(f: Facts) -> u16
     }
 }
 
-// The code of an alternative, and whether a connection comes up with it.
+// The code of an alternative, which is a code and at most 2, and whether a connection comes up with it.
 struct Alternative(u16, bool);
 
 // Of the codes that ask for BSNT, for LPO alone, or for a message's length.
 fn seldom(code: u8, f: Facts) -> Alternative
-    ensures { λ r. ⌜ r ≡ picked f (rare code) ⌝ }
+    ensures { λ r. ⌜ r ≡ picked f (seldomAsks code) ⌝ }
 {
     if code < cells::EIND1 {
         return Alternative(code as u16 + or_next(f.bsnt), false);

@@ -94,7 +94,7 @@ pub enum Arrived {
     Long,
 }
 
-// Reads a message that arrived. The reserved octets are not looked at.
+// Reads a message that arrived, a long one with one test. The reserved octets are not looked at.
 pub fn read(message: &[u8]) -> Arrived
     ensures { λ r. ⌜ r ≡ arrived (now (message .entry)) ⌝ }
 {
