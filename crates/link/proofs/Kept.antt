@@ -4,6 +4,7 @@ use mathlib.Core.Bool.{Bool, true, false, cond, not, _||_, true≢false}
 use mathlib.Core.List.{List, [], _∷_, _++_, map}
 use Prim.Native.Nat.{ℕ, _≤_}
 use native.Mathlib.Omega.{arith}
+use lib.Dec.{leb}
 use lib.ListN.{length}
 use borrow.Author.Tests.{leb-true}
 use Rattle.unit.specs.declared.Mps.{Mps}
@@ -16,17 +17,19 @@ use Rattle.table6.specs.Words.{NM, INS}
 use Rattle.table6.specs.Cell.{Told, Choice, illegal, does}
 use Rattle.table6.specs.Order.{signals}
 use Rattle.table6.specs.Summary.{Op, keep, put, Count, same, decided, less, summary, still, sum}
-use Rattle.table6.specs.Every.{own-message, own-messages, five, one-message}
+use Rattle.table6.specs.Every.{Test, Every, own-message, own-messages, five, one-message}
+use Rattle.table6.proofs.Unfolded.{every-row}
 use Rattle.table6.proofs.Every.{Holds, at-most-five, at-most-one-message, of-choice}
 use Rattle.link.specs.declared.Num.{Num}
 use Rattle.link.specs.declared.Bsnt.{Bsnt}
 use Rattle.link.specs.declared.Carries.{Carries}
 use Rattle.link.specs.declared.Link.{Link}
+use Rattle.link.specs.declared.Signal.{Signal}
 use Rattle.link.specs.Effect.{NoneIsZero}
-use Rattle.link.specs.Signal.{signalOf}
+use Rattle.link.specs.Signal.{none, signalOf}
 use Rattle.link.specs.Step.{Meeting}
 use Rattle.link.specs.Stored.{viewOf, meetingOf, factsOf, counted, held}
-use Rattle.link.specs.Kept.{messagesIn, messages, Keeps, Kept}
+use Rattle.link.specs.Kept.{messagesIn, messages, brings, brought, Keeps, Kept}
 use Rattle.link.proofs.Performed.{outcomeOf, choiceOf, by-choice}
 use Rattle.link.proofs.Spoken.{length-map}
 
@@ -73,9 +76,47 @@ own-all : (p : ℕ) (n : Num) (mps : Mps) (ups : Ups) (b : Num) (all : List Told
 own-all p n mps ups b [] = refl
 own-all p n mps ups b (a ∷ all) = rw (own-one p n mps ups b a, own-all p n mps ups b all)
 
-keeps : (l : Link) (m : Meeting) (x : Choice) → Holds (five (l .state)) [] x → Holds (one-message (l .state)) [] x → Keeps l (outcomeOf l m (sum (m .heading .arrives) x))
-keeps l m illegal h k = tt
-keeps l m (does acts next) h k =
+-- WHICH SIGNALS CARRY ANYTHING: that hangs on what is told alone, and no cell tells two of them
+
+abbrev plainly : Told → Signal
+plainly = signalOf 0 none Mps.Neutral Ups.Normal none
+
+brings-one : (p : ℕ) (n : Num) (mps : Mps) (ups : Ups) (b : Num) (a : Told) → brings (signalOf p n mps ups b a) ≡ brings (plainly a)
+brings-one p n mps ups b Told.AAL-RECEIVED-MESSAGE-indication = refl
+brings-one p n mps ups b Told.AAL-LINK-CONGESTED-indication = refl
+brings-one p n mps ups b Told.AAL-LINK-CONGESTION-CEASED-indication = refl
+brings-one p n mps ups b Told.AAL-IN-SERVICE-indication = refl
+brings-one p n mps ups b Told.AAL-OUT-OF-SERVICE-indication = refl
+brings-one p n mps ups b Told.AAL-RETRIEVED-MESSAGES-indication = refl
+brings-one p n mps ups b Told.AAL-RETRIEVAL-COMPLETE-indication = refl
+brings-one p n mps ups b Told.AAL-BSNT-confirm = refl
+brings-one p n mps ups b Told.AAL-BSNT-NOT-RETRIEVABLE-confirm = refl
+brings-one p n mps ups b Told.AA-ESTABLISH-request = refl
+brings-one p n mps ups b Told.AA-ESTABLISH-response = refl
+brings-one p n mps ups b (Told.AA-RELEASE-request uu) = refl
+brings-one p n mps ups b (Told.AA-DATA-request mu) = refl
+brings-one p n mps ups b Told.AA-RECOVER-response = refl
+brings-one p n mps ups b Told.AA-RETRIEVE-request = refl
+brings-one p n mps ups b Told.MAAL-PROVING-indication = refl
+brings-one p n mps ups b Told.MAAL-STOP-PROVING-indication = refl
+brings-one p n mps ups b (Told.MAAL-REPORT-indication x y z) = refl
+brings-one p n mps ups b (Told.Set t) = refl
+brings-one p n mps ups b (Told.Reset t) = refl
+
+brings-all : (p : ℕ) (n : Num) (mps : Mps) (ups : Ups) (b : Num) (all : List Told) → brought (map (signalOf p n mps ups b) all) ≡ brought (map plainly all)
+brings-all p n mps ups b [] = refl
+brings-all p n mps ups b (a ∷ all) = rw (brings-one p n mps ups b a, brings-all p n mps ups b all)
+
+abbrev one-brought : Test
+one-brought s acts next = leb (brought (map plainly (signals acts))) 1
+
+at-most-one-brought : Every one-brought
+unfolding every-row
+at-most-one-brought = refl
+
+keeps : (l : Link) (m : Meeting) (x : Choice) → Holds (five (l .state)) [] x → Holds (one-message (l .state)) [] x → Holds (one-brought (l .state)) [] x → Keeps l (outcomeOf l m (sum (m .heading .arrives) x))
+keeps l m illegal h k b = tt
+keeps l m (does acts next) h k b =
     let s = summary (m .heading .arrives ++ acts) still in
     record {
       n1 = refl;
@@ -83,10 +124,11 @@ keeps l m (does acts next) h k =
       bsnt = kept-zero (s .bsnt) (m .number) (l .bsnt);
       five = rw (length-map (signalOf (m .param) (m .number) (l .mps) (l .ups) (l .bsnt .num)) (signals acts)) (leb-true (length (signals acts)) 5 h);
       one-message = rw (own-all (m .param) (m .number) (l .mps) (l .ups) (l .bsnt .num) (signals acts)) (leb-true (own-messages (signals acts)) 1 k);
+      one-brought = rw (brings-all (m .param) (m .number) (l .mps) (l .ups) (l .bsnt .num) (signals acts)) (leb-true (brought (map plainly (signals acts))) 1 b);
     }
 
 pub kept : Kept
 kept l e =
     let v = viewOf e (l .c1) in
     by-choice (Keeps l) l e
-    (keeps l (meetingOf v) (choiceOf l v) (of-choice five at-most-five (v .0) (l .state) (factsOf l v)) (of-choice one-message at-most-one-message (v .0) (l .state) (factsOf l v)))
+    (keeps l (meetingOf v) (choiceOf l v) (of-choice five at-most-five (v .0) (l .state) (factsOf l v)) (of-choice one-message at-most-one-message (v .0) (l .state) (factsOf l v)) (of-choice one-brought at-most-one-brought (v .0) (l .state) (factsOf l v)))

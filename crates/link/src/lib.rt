@@ -450,7 +450,7 @@ pub struct Said {
 pub fn count(o: Said) -> u8
     ensures { λ r. ⌜ r ≡ length (signalsOf o) ⌝ }
 {
-    (o.words / 262144 % 8) as u8
+    (o.words / 262144 % 16) as u8
 }
 
 // What is said with the words of a cell.

@@ -127,3 +127,31 @@ put-after d s a i h g =
     ∙ drop-drop j (length s) (drop a d)
     ∙ drop-drop (length s + j) a d
     ∙ ap (λ (k : ℕ). drop k d) (sym e)
+
+-- What is written twice at a place, the second time no less: as if it were once.
+over-over : (x y d : List ℕ) → length x ≤ length y → over y (over x d) ≡ over y d
+unfolding over
+over-over x y d h =
+    let n = length y - length x in
+    let e : length y ≡ length x + n = omega arith in
+    ap (λ (l : List ℕ). y ++ l)
+    (ap (λ (k : ℕ). drop k (x ++ drop (length x) d)) e ∙ drop-append-add x (drop (length x) d) n ∙ drop-drop n (length x) d ∙ ap (λ (k : ℕ). drop k d) (sym e))
+
+put-again : (d x y : List ℕ) (a : ℕ) → a ≤ length d → length x ≤ length y → putAt (putAt d a x) a y ≡ putAt d a y
+unfolding putAt
+put-again d x y a h g =
+    (λ i. put-before d x a 0 a h (omega arith) i ++ over y (past d x a h i)) ∙ ap (λ (l : List ℕ). take a d ++ l) (over-over x y (drop a d) g)
+
+-- and over the end of what was written: its front, and this behind it
+pub put-over : (d x y : List ℕ) (a i : ℕ) → a + length x ≤ length d → i ≤ length x → length x ≤ i + length y → putAt (putAt d a x) (a + i) y ≡ putAt d a (take i x ++ y)
+put-over d x y a i h g k =
+    let f = take i x in
+    let e : length f ≡ i = length-take-le i x g in
+    let r = drop i x in
+    let s : putAt d a x ≡ putAt (putAt d a f) (a + i) r =
+    ap (putAt d a) (sym (take-append-drop i x)) ∙ sym (put-behind d f r a (omega arith)) ∙ ap (λ (n : ℕ). putAt (putAt d a f) (a + n) r) e in
+    let b : a + i ≤ length (putAt d a f) = rw (length-put d f a (omega (arith, e))) (omega arith) in
+    ap (λ (l : List ℕ). putAt l (a + i) y) s
+    ∙ put-again (putAt d a f) r y (a + i) b (omega (arith, length-drop i x))
+    ∙ ap (λ (n : ℕ). putAt (putAt d a f) (a + n) y) (sym e)
+    ∙ put-behind d f y a (omega arith)

@@ -332,6 +332,14 @@ pub no-mps : (r : List ℕ) → leb (at r 4) 2 ≡ false → wellFormed r ≡ fa
 unfolding wellFormed
 no-mps r h = simp (h, and-false)
 
+-- the test of n1 may come last
+n1-last : (n p a b c d e f : Bool) → p && n && a && b && c && d && e && f ≡ p && a && b && c && d && e && f && n
+n1-last true p a b c d e f = simp and-true
+n1-last false p a b c d e f = simp and-false
+
 pub the-rest : (r : List ℕ) → leb 1 (at r 2) ≡ true → leb (at r 2) 8 ≡ true → leb (at r 4) 2 ≡ true → restFormed r ≡ wellFormed r
 unfolding wellFormed restFormed
-the-rest r h k m = simp (h, k, m, and-true)
+the-rest r h k m =
+    n1-last (leb 1 (two (at r 14) (at r 15))) (eqb (at r 0) 76 && eqb (at r 1) 75) (leb (at r 3) 3) (leb (at r 5) 1) (leb (at r 6) 7) (leb (at r 7) 1)
+    (eqb (at r 7) 1 || eqb (at r 8) 0 && eqb (at r 9) 0 && eqb (at r 10) 0) (eqb (at r 11) 0)
+    ∙ simp (h, k, m, and-true)

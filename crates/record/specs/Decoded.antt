@@ -33,10 +33,10 @@ unfoldable pub restFormed : List ℕ → Bool
 restFormed r =
     eqb (at r 0) 76
     && eqb (at r 1) 75
+    && leb 1 (two (at r 14) (at r 15))
     && leb (at r 3) 3
     && leb (at r 5) 1
     && leb (at r 6) 7
     && leb (at r 7) 1
     && (eqb (at r 7) 1 || eqb (at r 8) 0 && eqb (at r 9) 0 && eqb (at r 10) 0)
     && eqb (at r 11) 0
-    && leb 1 (two (at r 14) (at r 15))

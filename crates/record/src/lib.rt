@@ -116,19 +116,19 @@ pub fn pack(l: Link) -> [u8; 16]
     ]
 }
 
-// Whether all is well-formed but state and MPS.
+// Whether all is well-formed but state and MPS. n1 is looked at first, since it is kept as it is: then the fewest octets wait in memory (D63).
 fn rest_formed(r: &[u8]) -> bool
     requires { ⌜ length (now r) ≡ 16 ⌝ }
     ensures { λ b. ⌜ b ≡ restFormed (now (r .entry)) ⌝ }
 {
     marked(r, &LK)
+        && (1 <= wide(r[14], r[15]))
         && (r[3] <= 3)
         && (r[5] <= 1)
         && (r[6] <= 7)
         && (r[7] <= 1)
         && ((r[7] == 1) | ((r[8] == 0) & (r[9] == 0) & (r[10] == 0)))
         && (r[11] == 0)
-        && (1 <= wide(r[14], r[15]))
 }
 
 fn unpack(r: &[u8], state: State, mps: Mps) -> Link

@@ -1,9 +1,10 @@
 -- How the code writes a signal: first the mark and the link's number, then, by its word, the octets from the code on. Nothing here has to be believed: the promise
 -- of `put_all` names none of it.
-use Prim.Native.Nat.{ℕ, _+_, _≤_}
+use Prim.Native.Nat.{ℕ, zero, suc, _+_, _*_, _/_, _%_, _≤_, _<_}
 use mathlib.Core.Path.{_≡_}
+use mathlib.Core.Logic.{_⊎_}
 use mathlib.Core.List.{List, [], _∷_, _++_}
-use lib.ListN.{length, drop, getD}
+use lib.ListN.{length, take, drop, getD}
 use Rattle.unit.specs.declared.Mps.{Mps}
 use Rattle.unit.specs.declared.Ups.{Ups}
 use Rattle.table6.specs.Stored.{wordAt, from}
@@ -11,6 +12,7 @@ use Rattle.link.specs.declared.Signal.{Signal}
 use Rattle.link.specs.Signal.{none, signalOf}
 use Rattle.octet.specs.Octets.{at, putAt}
 use Rattle.event.specs.Frame.{headOctets, messageOctets, SG, headOf, lengthAt, messageOf}
+use Rattle.signal.specs.declared.Run.{Run}
 use Rattle.signal.specs.SignalRecord.{bodyOf}
 
 -- The octets of an event are as many as it says.
@@ -34,9 +36,40 @@ pub record PutCode (octets out : List ℕ) (r : ℕ) (out′ : List ℕ) : Type 
 abbrev pub fixedWords : ℕ
 fixedWords = 36
 
+-- a word's octets where they bring nothing
 abbrev pub fixedOf : ℕ → List ℕ
 fixedOf w = fromCode [] (signalOf 0 none Mps.Neutral Ups.Normal none (wordAt w))
 
 -- any other word stands here for 12, proving
 unfoldable pub fixedAt : ℕ → List ℕ
 fixedAt w = getD (from fixedOf 0 fixedWords) w (fixedOf 12)
+
+-- what is written of any other before what it carries is in its place
+abbrev pub carryingAt : ℕ → List ℕ
+carryingAt w = take 8 (fixedOf w)
+
+-- RUNS of signals that are known beforehand: the octets of i of them, by the words from the lowest on; what is left of the words; and that each is one.
+abbrev pub known : List ℕ → ℕ → ℕ → List ℕ
+known front zero rest = []
+known front (suc i) rest = (front ++ fixedAt (rest % 256)) ++ known front i (rest / 256)
+
+abbrev pub after : ℕ → ℕ → ℕ
+after zero rest = rest
+after (suc i) rest = after i (rest / 256)
+
+abbrev pub AllKnown : ℕ → ℕ → Type 0
+AllKnown zero rest = Unit {0}
+AllKnown (suc i) rest = (rest % 256 < fixedWords) × AllKnown i (rest / 256)
+
+-- From one place of the writer to another, with some told between.
+pub record Ran (front : List ℕ) (run : Run) (out : List ℕ) (r : Run) (out′ : List ℕ) : Type 0 where
+  pub told : ℕ
+  pub all : r .left + told ≡ run .left
+  pub at : r .at ≡ run .at + 12 * told
+  pub rest : r .rest ≡ after told (run .rest)
+  pub words : AllKnown told (run .rest)
+  pub written : out′ ≡ putAt out (run .at) (known front told (run .rest))
+
+-- It stands at the end, or before a signal that carries something.
+abbrev pub Halts : Run → Type 0
+Halts r = (r .left ≡ 0) ⊎ (fixedWords ≤ r .rest % 256)

@@ -2,12 +2,12 @@
 mod report;
 
 use event::HEAD;
-use event::message;
 use link::Num;
 use link::Said;
 use link::count;
 use octet::put;
 use octet::put_at;
+use octet::wide;
 use report::ALN;
 use report::ANS;
 use report::CC;
@@ -29,26 +29,27 @@ use unit::Mps;
 use unit::Status;
 use unit::Ups;
 ghost use mathlib.Core.Path.{_≡_};
-ghost use mathlib.Core.List.{[]};
-ghost use Prim.Native.Nat.{_+_, _-_, _≤_};
-ghost use lib.ListN.{length, set};
+ghost use mathlib.Core.List.{_++_};
+ghost use Prim.Native.Nat.{_+_, _*_, _≤_};
+ghost use lib.ListN.{length, drop, set};
 ghost use Rattle.unit.specs.Unit.{code, unitOf};
 ghost use Rattle.unit.specs.Proving.{table8};
-ghost use Rattle.table6.specs.SignalCodes.{ESTABLISH-request, DATA-request};
 ghost use Rattle.table6.specs.Stored.{wordAt};
-ghost use Rattle.link.specs.declared.Carries.{Carries};
-ghost use Rattle.link.specs.Signal.{none, signal};
+ghost use Rattle.link.specs.Kept.{brought};
 ghost use Rattle.link.specs.Stored.{meantBy, signalsOf};
-ghost use Rattle.octet.specs.Octets.{putAt};
+ghost use Rattle.octet.specs.Octets.{over, putAt};
 ghost use Rattle.event.specs.Frame.{headOctets, messageOctets, linkAt, lengthAt, messageOf};
 ghost use Rattle.signal.specs.SignalRecord.{bodyOf, signalOctets, joined, Put};
-ghost use Rattle.signal.specs.Writing.{Whole, frontOf, fromCode, PutCode, fixedWords, fixedAt};
+ghost use Rattle.signal.specs.Writing.{Whole, frontOf, fromCode, PutCode, fixedWords, fixedAt, carryingAt, Ran, Halts};
 
 // The mark of a signal.
 const SG: [u8; 2] = *b"SG";
 
 // The octet of a signal that is its code, behind the mark and the link's number.
 const CODE: usize = 4;
+
+// The two octets of its length, before the message.
+const LENGTH: usize = 10;
 
 // The octets of a unit.
 const UNIT: u8 = 4;
@@ -99,72 +100,67 @@ fn fixed(w: u64) -> [u8; 8]
     }
 }
 
-// Writes octets 4 to 11 of a signal that has no message, and answers the signal's length.
-fn put_fixed(out: &mut [u8], eight: [u8; 8]) -> usize
-    requires { ⌜ headOctets ≤ length (now out) ⌝ }
-    ensures { λ r. ⌜ PutCode eight (now (out .entry)) r (now (out .exit)) ⌝ }
+// The same of a signal that carries something, before it is in its place. A word past the last stands for it.
+fn carrying(w: u64) -> [u8; 8]
+    requires { ⌜ fixedWords ≤ w ⌝ }
+    ensures { λ r. ⌜ r ≡ carryingAt w ⌝ }
 {
-    put_at(out, CODE, &eight);
+    match w {
+        effects::BSNT => [signals::BSNT, 0, 0, 0, 0, 0, 0, 0],
+        effects::RETRIEVE_REQUEST => [signals::RETRIEVE_REQUEST, 0, 0, 0, 0, 0, 0, 0],
+        effects::LINK_CONGESTED => [signals::LINK_CONGESTED, 0, 0, 0, 0, 0, 0, 0],
+        effects::REPORT_RR_UU => [signals::REPORT, 0, RR, NONE, SSCOP_UU, 0, 0, 0],
+        effects::ESTABLISH_REQUEST => [signals::ESTABLISH_REQUEST, unit::NM, 0, 0, 0, 0, 0, 0],
+        effects::ESTABLISH_RESPONSE => [signals::ESTABLISH_RESPONSE, unit::NM, 0, 0, 0, 0, 0, 0],
+        effects::UNIT_NM => [signals::DATA_REQUEST, 0, 0, 0, 0, 0, 0, UNIT],
+        effects::UNIT_INS => [signals::DATA_REQUEST, 0, 0, 0, 0, 0, 0, UNIT],
+        effects::RECEIVED_MESSAGE => [signals::RECEIVED_MESSAGE, 0, 0, 0, 0, 0, 0, 0],
+        effects::RETRIEVED_MESSAGES => [signals::RETRIEVED_MESSAGES, 0, 0, 0, 0, 0, 0, 0],
+        _ => [signals::DATA_REQUEST, 0, 0, 0, 0, 0, 0, 0],
+    }
+}
+
+// Stores a parameter in a signal whose octets are there, and answers the signal's length.
+fn with_param(out: &mut [u8], param: u8) -> usize
+    requires { ⌜ headOctets ≤ length (now out) ⌝ }
+    ensures { λ r. ⌜ (r ≡ headOctets) × (now (out .exit) ≡ set (now (out .entry)) 5 param) ⌝ }
+{
+    out[5] = param;
     HEAD
 }
 
-// The same, with a parameter.
-fn with_param(out: &mut [u8], eight: [u8; 8], param: u8) -> usize
+// The same with a number.
+fn with_number(out: &mut [u8], num: Num) -> usize
     requires { ⌜ headOctets ≤ length (now out) ⌝ }
-    ensures { λ r. ⌜ PutCode (set eight 1 param) (now (out .entry)) r (now (out .exit)) ⌝ }
+    ensures { λ r. ⌜ (r ≡ headOctets) × (now (out .exit) ≡ set (set (set (now (out .entry)) 6 (num .a)) 7 (num .b)) 8 (num .c)) ⌝ }
 {
-    let n = put_fixed(out, eight);
-    out[5] = param;
-    n
-}
-
-// The same, with a number.
-fn with_number(out: &mut [u8], code: u8, num: Num) -> usize
-    requires { ⌜ headOctets ≤ length (now out) ⌝ }
-    ensures { λ r. ⌜ PutCode (fromCode [] (signal code 0 num Carries.Nothing)) (now (out .entry)) r (now (out .exit)) ⌝ }
-{
-    let n = put_fixed(out, [code, 0, 0, 0, 0, 0, 0, 0]);
     out[6] = num.a;
     out[7] = num.b;
     out[8] = num.c;
-    n
+    HEAD
 }
 
-// Writes a data request with a unit from octet 4 on, and answers its length.
+// The same with a unit behind them.
 fn with_unit(out: &mut [u8], s: Status) -> usize
     requires { ⌜ headOctets + length (unitOf s) ≤ length (now out) ⌝ }
-    ensures { λ r. ⌜ PutCode (fromCode [] (signal DATA-request 0 none (Carries.Unit s))) (now (out .entry)) r (now (out .exit)) ⌝ }
+    ensures { λ r. ⌜ (r ≡ headOctets + length (unitOf s)) × (now (out .exit) ≡ putAt (now (out .entry)) headOctets (unitOf s)) ⌝ }
 {
-    let n = put_fixed(out, [signals::DATA_REQUEST, 0, 0, 0, 0, 0, 0, UNIT]);
     let unit = unit::write(s);
     put_at(out, HEAD, &unit);
-    n + UNIT as usize
+    HEAD + UNIT as usize
 }
 
-// Writes an event's message into out behind a head. It goes by way of an array of this function's own, which overlaps neither, and so the compiler makes one block
+// The same with the event's length and message. They go by way of an array of this function's own, which overlaps neither, and so the compiler makes one block
 // copy of the two.
-fn put_message(out: &mut [u8], message: &[u8])
-    requires { ⌜ (headOctets + length (now message) ≤ length (now out)) × (length (now message) ≤ messageOctets) ⌝ }
-    ensures { λ _. ⌜ now (out .exit) ≡ putAt (now (out .entry)) headOctets (now (message .entry)) ⌝ }
+fn with_message(out: &mut [u8], e: &[u8]) -> usize
+    requires { ⌜ Whole (now e) × (length (now e) ≤ length (now out)) ⌝ }
+    ensures { λ r. ⌜ (r ≡ length (now (e .entry))) × (now (out .exit) ≡ putAt (now (out .entry)) 10 (drop 10 (now (e .entry)))) ⌝ }
 {
-    let mut held = [0u8; 4096];
-    put(&mut held, message);
-    put_at(out, HEAD, &held[..message.len()]);
-}
-
-// Writes a signal with the event's message from octet 4 on, and answers its length. The length's two octets are the event's own, and
-// read before any is written, so that the compiler copies both at once.
-fn with_message(out: &mut [u8], code: u8, e: &[u8]) -> usize
-    requires { ⌜ Whole (now e) × (headOctets + length (messageOf (now e)) ≤ length (now out)) ⌝ }
-    ensures { λ r. ⌜ PutCode (fromCode (messageOf (now (e .entry))) (signal code 0 none Carries.Message)) (now (out .entry)) r (now (out .exit)) ⌝ }
-{
-    let high = e[10];
-    let low = e[11];
-    put_fixed(out, [code, 0, 0, 0, 0, 0, 0, 0]);
-    out[10] = high;
-    out[11] = low;
-    put_message(out, message(e));
-    e.len()
+    let end = HEAD + wide(e[10], e[11]) as usize;
+    let mut held = [0u8; 4098];
+    put(&mut held, &e[LENGTH..end]);
+    put_at(out, LENGTH, &held[..end - LENGTH]);
+    end
 }
 
 // The field that Table 8 offers to the peer.
@@ -174,15 +170,7 @@ fn offered(mps: Mps, ups: Ups) -> u8
     unit::sscop_uu(mps, ups).code()
 }
 
-// The code of a request or a response that offers it. Their words follow each other as their codes do.
-fn establishing(w: u64) -> u8
-    requires { ⌜ (38 ≤ w) × (w ≤ 39) ⌝ }
-    ensures { λ r. ⌜ r ≡ ESTABLISH-request + (w - 38) ⌝ }
-{
-    signals::ESTABLISH_REQUEST + (w - effects::ESTABLISH_REQUEST) as u8
-}
-
-// Writes a signal that carries something from octet 4 on, and answers its length. No step says a word past the last; table6 has it start proving.
+// Writes a signal that carries something from octet 4 on, and answers its length. What it carries is told by ranges of words.
 fn put_carrying(out: &mut [u8], w: u64, said: Said, e: &[u8]) -> usize
     requires { ⌜ (fixedWords ≤ w) × Whole (now e) × (headOctets + length (bodyOf (meantBy said (wordAt w) .carries) (messageOf (now e))) ≤ length (now out)) ⌝ }
     ensures { λ r. ⌜ PutCode (fromCode (messageOf (now (e .entry))) (meantBy said (wordAt w))) (now (out .entry)) r (now (out .exit)) ⌝ }
@@ -191,31 +179,27 @@ fn put_carrying(out: &mut [u8], w: u64, said: Said, e: &[u8]) -> usize
     let ups = said.ups;
     let num = said.num;
     let bsnt = said.bsnt;
-    match w {
-        effects::LINK_CONGESTED => with_param(
-            out,
-            [signals::LINK_CONGESTED, 0, 0, 0, 0, 0, 0, 0],
-            said.param,
-        ),
-        effects::BSNT => with_number(out, signals::BSNT, bsnt),
-        effects::ESTABLISH_REQUEST | effects::ESTABLISH_RESPONSE => with_param(
-            out,
-            [establishing(w), 0, 0, 0, 0, 0, 0, 0],
-            offered(mps, ups),
-        ),
-        effects::RETRIEVE_REQUEST => with_number(out, signals::RETRIEVE_REQUEST, num),
-        effects::REPORT_RR_UU => with_param(
-            out,
-            [signals::REPORT, 0, RR, NONE, SSCOP_UU, 0, 0, 0],
-            said.param,
-        ),
-        effects::RECEIVED_MESSAGE => with_message(out, signals::RECEIVED_MESSAGE, e),
-        effects::RETRIEVED_MESSAGES => with_message(out, signals::RETRIEVED_MESSAGES, e),
-        effects::DATA => with_message(out, signals::DATA_REQUEST, e),
-        effects::UNIT_NM => with_unit(out, Status::NM),
-        effects::UNIT_INS => with_unit(out, Status::INS),
-        _ => put_fixed(out, [signals::START_PROVING, 0, 0, 0, 0, 0, 0, 0]),
+    let eight = carrying(w);
+    put_at(out, CODE, &eight);
+    if effects::RECEIVED_MESSAGE <= w {
+        return with_message(out, e);
     }
+    if effects::UNIT_INS <= w {
+        return with_unit(out, Status::INS);
+    }
+    if effects::UNIT_NM <= w {
+        return with_unit(out, Status::NM);
+    }
+    if effects::ESTABLISH_REQUEST <= w {
+        return with_param(out, offered(mps, ups));
+    }
+    if effects::LINK_CONGESTED <= w {
+        return with_param(out, said.param);
+    }
+    if effects::RETRIEVE_REQUEST <= w {
+        return with_number(out, num);
+    }
+    with_number(out, bsnt)
 }
 
 // The mark and the link's number, which is in the event's octets as in a signal's.
@@ -226,34 +210,83 @@ fn front_of(e: &[u8]) -> [u8; 4]
     [SG[0], SG[1], e[2], e[3]]
 }
 
-// Writes one signal over the front of out, and answers its length.
-fn put_signal(out: &mut [u8], front: [u8; 4], w: u64, said: Said, e: &[u8]) -> usize
-    requires { ⌜ (front ≡ frontOf (now e)) × Whole (now e) × (headOctets + length (bodyOf (meantBy said (wordAt w) .carries) (messageOf (now e))) ≤ length (now out)) ⌝ }
+// Writes a signal that is known beforehand over the front of out.
+fn put_known(out: &mut [u8], front: [u8; 4], w: u64)
+    requires { ⌜ headOctets ≤ length (now out) ⌝ }
+    ensures { λ _. ⌜ now (out .exit) ≡ over (front ++ fixedAt w) (now (out .entry)) ⌝ }
+{
+    put(out, &front);
+    let eight = fixed(w);
+    put_at(out, CODE, &eight);
+}
+
+// Writes one that carries something, and answers its length.
+fn put_other(out: &mut [u8], front: [u8; 4], w: u64, said: Said, e: &[u8]) -> usize
+    requires { ⌜ (fixedWords ≤ w) × (front ≡ frontOf (now e)) × Whole (now e) × (headOctets + length (bodyOf (meantBy said (wordAt w) .carries) (messageOf (now e))) ≤ length (now out)) ⌝ }
     ensures { λ r. ⌜ Put (signalOctets (linkAt (now (e .entry))) (messageOf (now (e .entry))) (meantBy said (wordAt w))) (now (out .entry)) r (now (out .exit)) ⌝ }
 {
     put(out, &front);
-    if w < effects::CARRYING {
-        put_fixed(out, fixed(w))
-    } else {
-        put_carrying(out, w, said, e)
+    put_carrying(out, w, said, e)
+}
+
+// How far the writer is: the octets that are written, the words that are left, the lowest next, and how many they are.
+struct Run {
+    at: usize,
+    rest: u64,
+    left: u8,
+}
+
+// Writes signals one behind the other up to one that carries something, or to the end.
+fn put_run(out: &mut [u8], front: [u8; 4], run: Run) -> Run
+    requires { ⌜ (length front ≡ 4) × (run .at + headOctets * run .left ≤ length (now out)) ⌝ }
+    ensures { λ r. ⌜ Ran front run (now (out .entry)) r (now (out .exit)) × Halts r ⌝ }
+{
+    let mut at = run.at;
+    let mut rest = run.rest;
+    let mut left = run.left;
+    while 0 < left && rest % 256 < effects::CARRYING {
+        put_known(&mut out[at..], front, rest % 256);
+        at += HEAD;
+        rest = rest / 256;
+        left -= 1;
+    }
+    Run {
+        at: at,
+        rest: rest,
+        left: left,
     }
 }
 
-// Writes what a step says over the front of out, one record behind the other, and answers the length of it all. A step's words are told from the lowest octet.
+// Writes what a step says over the front of out, one record behind the other, and answers the length of it all. No step says two signals that carry something: so
+// there is no loop around the one, and what it takes is made ready for it alone.
 pub fn put_all(out: &mut [u8], said: Said, e: &[u8]) -> usize
-    requires { ⌜ (headOctets ≤ length (now e)) × (lengthAt (now e) ≡ length (messageOf (now e))) × (length (messageOf (now e)) ≤ messageOctets) × (length (joined (linkAt (now e)) (messageOf (now e)) (signalsOf said)) ≤ length (now out)) ⌝ }
+    requires { ⌜ (headOctets ≤ length (now e)) × (lengthAt (now e) ≡ length (messageOf (now e))) × (length (messageOf (now e)) ≤ messageOctets) × (brought (signalsOf said) ≤ 1) × (length (joined (linkAt (now e)) (messageOf (now e)) (signalsOf said)) ≤ length (now out)) ⌝ }
     ensures { λ r. ⌜ Put (joined (linkAt (now (e .entry))) (messageOf (now (e .entry))) (signalsOf said)) (now (out .entry)) r (now (out .exit)) ⌝ }
 {
     let n = count(said);
     let front = front_of(e);
-    let mut rest = said.words / 16777216;
-    let mut at = 0;
-    let mut j = 0;
-    while j < n {
-        let w = rest % 256;
-        at += put_signal(&mut out[at..], front, w, said, e);
-        rest = rest / 256;
-        j += 1;
+    let first = put_run(
+        out,
+        front,
+        Run {
+            at: 0,
+            rest: said.words / 16777216,
+            left: n,
+        },
+    );
+    let at = first.at;
+    if first.left == 0 {
+        return at;
     }
-    at
+    let m = put_other(&mut out[at..], front, first.rest % 256, said, e);
+    let last = put_run(
+        out,
+        front,
+        Run {
+            at: at + m,
+            rest: first.rest / 256,
+            left: first.left - 1,
+        },
+    );
+    last.at
 }

@@ -1,9 +1,9 @@
 -- A list as the values of a function, and a table as a `match` on a number: its arms are a list's elements, its last arm is for all the rest. Assumes nothing.
 use mathlib.Core.Path.{_≡_, refl, sym, _∙_, ap}
 use mathlib.Core.List.{List, [], _∷_}
-use Prim.Native.Nat.{ℕ, zero, suc, _+_, _<_, _≤_}
+use Prim.Native.Nat.{ℕ, zero, suc, _+_, _-_, _<_, _≤_}
 use native.Mathlib.Omega.{arith}
-use native.Mathlib.Nat.{add-zero, zero-add, add-suc, suc-add, le-of-suc-le-suc, not-suc-le-zero}
+use native.Mathlib.Nat.{add-zero, add-suc, suc-add, le-of-suc-le-suc, not-suc-le-zero}
 use lib.Dec.{lit<}
 use lib.ListN.{length, getD}
 use Rattle.table6.specs.declared.State.{State}
@@ -14,10 +14,16 @@ getD-from f zero i k d h = absurd (not-suc-le-zero h)
 getD-from f (suc n) i zero d h = ap f (sym (add-zero i))
 getD-from f (suc n) i (suc k) d h = getD-from f n (suc i) k d (le-of-suc-le-suc h) ∙ ap f (suc-add i k ∙ sym (add-suc i k))
 
--- two functions that one computed test finds equal below n
+-- two functions that one computed test finds equal at the n numbers from a on, or below n
+pub alike-from {ℓ} : {A : Type ℓ} (f g : ℕ → A) (a n : ℕ) (d : A) → from f a n ≡ from g a n → (k : ℕ) → a ≤ k → k < a + n → f k ≡ g k
+alike-from f g a n d e k l h =
+    let i = k - a in
+    let p : a + i ≡ k = omega arith in
+    let q : i < n = omega arith in
+    ap f (sym p) ∙ sym (getD-from f n a i d q) ∙ ap (λ l. getD l i d) e ∙ getD-from g n a i d q ∙ ap g p
+
 pub alike {ℓ} : {A : Type ℓ} (f g : ℕ → A) (n : ℕ) (d : A) → from f 0 n ≡ from g 0 n → (k : ℕ) → k < n → f k ≡ g k
-alike f g n d e k h =
-    ap f (sym (zero-add k)) ∙ sym (getD-from f n 0 k d h) ∙ ap (λ l. getD l k d) e ∙ getD-from g n 0 k d h ∙ ap g (zero-add k)
+alike f g n d e k h = alike-from f g 0 n d e k (omega arith) (omega arith)
 
 -- none of the k numbers from a on
 abbrev pub MissedFrom : ℕ → ℕ → ℕ → Type 0

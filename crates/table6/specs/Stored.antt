@@ -136,22 +136,22 @@ number change ws = change + 2 ^ 18 * length ws + 2 ^ 24 * octets ws
 abbrev pub numbers : List ℕ
 numbers =
     0  -- Illegal
-    ∷ number kept (44 ∷ 18 ∷ [])  -- MESSG
+    ∷ number kept (46 ∷ 18 ∷ [])  -- MESSG
     ∷ number (out-of-service - t1 - t2) (19 ∷ 30 ∷ 31 ∷ [])  -- STOP3
     ∷ number (released - t2) (5 ∷ 19 ∷ 31 ∷ [])  -- STOP4
     ∷ number (released - t2) (19 ∷ 31 ∷ [])  -- STOP5
     ∷ number (released - t2 - t3) (5 ∷ 25 ∷ 13 ∷ 31 ∷ 32 ∷ [])  -- STOP6
     ∷ number (released - t2) (5 ∷ 25 ∷ 31 ∷ [])  -- STOP7
     ∷ number released (5 ∷ 25 ∷ [])  -- STOP8
-    ∷ number (kept - state + 3 - t2 + 8 * t2) (38 ∷ 22 ∷ 34 ∷ [])  -- START
-    ∷ number kept (40 ∷ [])  -- FSNC_
+    ∷ number (kept - state + 3 - t2 + 8 * t2) (40 ∷ 22 ∷ 34 ∷ [])  -- START
+    ∷ number kept (37 ∷ [])  -- FSNC_
     ∷ number kept []  -- ALONE
     ∷ number (kept - state + 0) []  -- RCNF2
     ∷ number awaits (33 ∷ [])  -- RCNF5
     ∷ number (kept - ins + 4 * ins) []  -- INS_6
     ∷ number (kept - state + 7 - t2) (1 ∷ 21 ∷ 31 ∷ [])  -- INS_7
     ∷ number abandoned (9 ∷ 24 ∷ [])  -- LONG7
-    ∷ number kept (42 ∷ [])  -- LONG8
+    ∷ number kept (44 ∷ [])  -- LONG8
     ∷ number (abandoned - t3) (24 ∷ 9 ∷ 13 ∷ 32 ∷ [])  -- PERR6
     ∷ number abandoned (24 ∷ 9 ∷ [])  -- RSYN7
     ∷ number released (9 ∷ 2 ∷ 27 ∷ [])  -- PERR8
@@ -169,36 +169,36 @@ numbers =
     ∷ number (released - lpo + 4 * lpo) (6 ∷ 2 ∷ [])  -- OUTG8
     ∷ number (kept - lpo) []  -- RCVRD
     ∷ number (abandoned - t3) (10 ∷ 23 ∷ 13 ∷ 32 ∷ [])  -- CONG6
-    ∷ number kept (36 ∷ 15 ∷ [])  -- CONG_
+    ∷ number kept (38 ∷ 15 ∷ [])  -- CONG_
     ∷ number kept (14 ∷ [])  -- CEAS5
     ∷ number kept (0 ∷ 14 ∷ [])  -- CEAS_
-    ∷ number (kept - state + 3 - t1) (38 ∷ [])  -- T1EX3
+    ∷ number (kept - state + 3 - t1) (40 ∷ [])  -- T1EX3
     ∷ number (out-of-service - t1 - t2) (2 ∷ 26 ∷ 30 ∷ [])  -- T2EX3
     ∷ number (released - t2) (7 ∷ 2 ∷ 26 ∷ [])  -- T2EX4
     ∷ number (released - t2) (2 ∷ 20 ∷ [])  -- T2EX5
     ∷ number (released - t2 - t3) (26 ∷ 13 ∷ 2 ∷ 7 ∷ 32 ∷ [])  -- T2EX6
     ∷ number (released - t2) (26 ∷ 2 ∷ 7 ∷ [])  -- T2EX7
-    ∷ number (kept - t3 + 8 * t3) (45 ∷ 35 ∷ [])  -- T3PRV
-    ∷ number kept (37 ∷ [])  -- BSNT_
+    ∷ number (kept - t3 + 8 * t3) (42 ∷ 35 ∷ [])  -- T3PRV
+    ∷ number kept (36 ∷ [])  -- BSNT_
     ∷ number kept (4 ∷ [])  -- BSNTN
     ∷ number kept (6 ∷ [])  -- EIND1
     ∷ number kept (5 ∷ [])  -- EIN1A
-    ∷ number kept (43 ∷ [])  -- RETRV
+    ∷ number kept (45 ∷ [])  -- RETRV
     ∷ number kept []  -- RETRN
-    ∷ number awaits (41 ∷ 33 ∷ [])  -- RIND_
+    ∷ number awaits (39 ∷ 33 ∷ [])  -- RIND_
     ∷ number awaits (28 ∷ 33 ∷ [])  -- RINDS
-    ∷ number (awaits - t3) (41 ∷ 13 ∷ 32 ∷ 33 ∷ [])  -- RIND6
+    ∷ number (awaits - t3) (39 ∷ 13 ∷ 32 ∷ 33 ∷ [])  -- RIND6
     ∷ number (awaits - t3) (28 ∷ 13 ∷ 32 ∷ 33 ∷ [])  -- RIN6S
-    ∷ number out-of-service (2 ∷ 41 ∷ [])  -- RIND8
+    ∷ number out-of-service (2 ∷ 39 ∷ [])  -- RIND8
     ∷ number out-of-service (2 ∷ 29 ∷ [])  -- RIN8S
     ∷ number proves (12 ∷ 35 ∷ [])  -- ECNF4
     ∷ number (abandoned - ins) (9 ∷ 24 ∷ [])  -- ECN4N
-    ∷ number (proves - t1) (39 ∷ 12 ∷ 30 ∷ 35 ∷ [])  -- EIND3
+    ∷ number (proves - t1) (41 ∷ 12 ∷ 30 ∷ 35 ∷ [])  -- EIND3
     ∷ number kept (9 ∷ 24 ∷ [])  -- EIN3N
     ∷ number (released - t2 - t3) (6 ∷ 2 ∷ 25 ∷ 13 ∷ 31 ∷ [])  -- T3END
-    ∷ number (kept - state + 7 - t2 - t3) (13 ∷ 46 ∷ 21 ∷ 1 ∷ 31 ∷ [])  -- T3INS
-    ∷ number (kept - state + 6 - t3) (13 ∷ 46 ∷ [])  -- T3RDY
-    ∷ 0
+    ∷ number (kept - state + 7 - t2 - t3) (13 ∷ 43 ∷ 21 ∷ 1 ∷ 31 ∷ [])  -- T3INS
+    ∷ number (kept - state + 6 - t3) (13 ∷ 43 ∷ [])  -- T3RDY
+    ∷ 2 ^ 18 * 15  -- no cell's
     ∷ []
 
 unfoldable pub numberAt : ℕ → ℕ
@@ -318,36 +318,38 @@ words =
     ∷ Told.Set T1
     ∷ Told.Set T2
     ∷ Told.Set T3
-    ∷ Told.AAL-LINK-CONGESTED-indication
     ∷ Told.AAL-BSNT-confirm
+    ∷ Told.AA-RETRIEVE-request
+    ∷ Told.AAL-LINK-CONGESTED-indication
+    ∷ Told.MAAL-REPORT-indication RR – SSCOP-UU
     ∷ Told.AA-ESTABLISH-request
     ∷ Told.AA-ESTABLISH-response
-    ∷ Told.AA-RETRIEVE-request
-    ∷ Told.MAAL-REPORT-indication RR – SSCOP-UU
-    ∷ Told.AAL-RECEIVED-MESSAGE-indication
-    ∷ Told.AAL-RETRIEVED-MESSAGES-indication
-    ∷ Told.AA-DATA-request Parameter-Data
     ∷ Told.AA-DATA-request NM
     ∷ Told.AA-DATA-request INS
+    ∷ Told.AAL-RECEIVED-MESSAGE-indication
+    ∷ Told.AAL-RETRIEVED-MESSAGES-indication
     ∷ []
 
+-- the last stands for all from 46 on
 abbrev pub wordAt : ℕ → Told
-wordAt w = getD words w Told.MAAL-PROVING-indication
+wordAt w = getD words w (Told.AA-DATA-request Parameter-Data)
 
 -- f at i and at the n - 1 numbers after it
 abbrev pub from {ℓ} : {A : Type ℓ} → (ℕ → A) → ℕ → ℕ → List A
 from f i zero = []
 from f i (suc n) = f i ∷ from f (suc i) n
 
--- how many words a number has, and its word number k
+-- how many words a number has
 abbrev pub wordCount : ℕ → ℕ
-wordCount n = n / 2 ^ 18 % 8
+wordCount n = n / 2 ^ 18 % 16
 
-abbrev pub octet : ℕ → ℕ → ℕ
-octet n k = n / 2 ^ (k * 8 + 24) % 256
+-- the n lowest octets of a number, the lowest first
+abbrev pub lowest : ℕ → ℕ → List ℕ
+lowest zero r = []
+lowest (suc n) r = r % 256 ∷ lowest n (r / 256)
 
 abbrev pub said : ℕ → List Told
-said n = map wordAt (from (octet n) 0 (wordCount n))
+said n = map wordAt (lowest (wordCount n) (n / 2 ^ 24))
 
 -- CODES
 

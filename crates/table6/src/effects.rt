@@ -8,7 +8,7 @@ ghost use Rattle.table6.specs.Stored.{numberAt, seldomAsks, askAt, picke
 
 // The number, from its lowest bit: the next state (bits 0 to 2); a mask that keeps the state, or none of it (3 to 5); of T1, T2 and T3 those that are kept
 // as they are (6 to 8) and those that run (9 to 11); the same of the INS flag and LPO (12, 13 and 14, 15); whether UPS is kept or becomes Normal (16); how
-// many signals (18 to 20), and each in an octet (from 24 on). So state, timers, flags and UPS are altered by masks, with no branch.
+// many signals (18 to 21), and each in an octet (from 24 on). So state, timers, flags and UPS are altered by masks, with no branch.
 const TO_111: u64 = 0;
 
 const TO_141: u64 = 1;
@@ -155,30 +155,31 @@ pub const SET_T2: u64 = 34;
 
 pub const SET_T3: u64 = 35;
 
-// From here on a signal carries what the event or the link brings.
+// From here on a signal carries what the event or the link brings, alike from two to two: a number, a parameter, what Table 8 offers, a unit; the last three a
+// message.
 pub const CARRYING: u64 = 36;
 
-pub const LINK_CONGESTED: u64 = 36;
+pub const BSNT: u64 = 36;
 
-pub const BSNT: u64 = 37;
+pub const RETRIEVE_REQUEST: u64 = 37;
 
-pub const ESTABLISH_REQUEST: u64 = 38;
+pub const LINK_CONGESTED: u64 = 38;
 
-pub const ESTABLISH_RESPONSE: u64 = 39;
+pub const REPORT_RR_UU: u64 = 39;
 
-pub const RETRIEVE_REQUEST: u64 = 40;
+pub const ESTABLISH_REQUEST: u64 = 40;
 
-pub const REPORT_RR_UU: u64 = 41;
+pub const ESTABLISH_RESPONSE: u64 = 41;
 
-pub const RECEIVED_MESSAGE: u64 = 42;
+pub const UNIT_NM: u64 = 42;
 
-pub const RETRIEVED_MESSAGES: u64 = 43;
+pub const UNIT_INS: u64 = 43;
 
-pub const DATA: u64 = 44;
+pub const RECEIVED_MESSAGE: u64 = 44;
 
-pub const UNIT_NM: u64 = 45;
+pub const RETRIEVED_MESSAGES: u64 = 45;
 
-pub const UNIT_INS: u64 = 46;
+pub const DATA: u64 = 46;
 
 // What each code does.
 const MESSG: u64 = KEPT + 2 * SAYS + DATA * FIRST + REPORT_PDUT * SECOND;
@@ -405,6 +406,9 @@ const T3INS: u64 = KEPT - STATE + TO_3105 - T2 - T3
 
 const T3RDY: u64 = KEPT - STATE + TO_2104 - T3 + 2 * SAYS + STOP * FIRST + UNIT_INS * SECOND;
 
+// No cell has the last code. Its number counts more signals than any other: else the compiler would write the loop over them out turn by turn (D63).
+const NO_CELL: u64 = 15 * SAYS;
+
 // The number of a code, which is below 64. All arms are constants: the compiler makes a table of it, with no jump, and since all 64 are there no test.
 fn number(code: u8) -> u64
     ensures { λ r. ⌜ r ≡ numberAt code ⌝ }
@@ -473,7 +477,7 @@ fn number(code: u8) -> u64
         cells::T3END => T3END,
         cells::T3INS => T3INS,
         cells::T3RDY => T3RDY,
-        63 => 0,
+        63 => NO_CELL,
         _ => 0,
     }
 }

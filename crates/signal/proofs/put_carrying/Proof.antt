@@ -1,194 +1,256 @@
--- `signal::put_carrying` meets its contract. Assumes nothing.
+-- `signal::put_carrying` meets its contract: the eight octets of the word, with what it carries in its place. Assumes nothing.
 use borrow.Author.Needs.{needs}
+use borrow.Author.Tests.{ltb-true, ltb-false}
 use native.Mathlib.Omega.{arith}
-use native.Mathlib.Nat.{eq-or-lt-of-le}
-use mathlib.Core.Logic.{_⊎_, inl, inr}
-use mathlib.Core.Path.{_≡_, refl, sym, subst}
-use mathlib.Core.List.{List, [], _∷_}
-use Prim.Native.Nat.{ℕ, _+_, _-_, _<_, _≤_}
-use lib.ListN.{set}
-use Rattle.unit.specs.Unit.{code}
+use mathlib.Core.Bool.{Bool, true, false}
+use mathlib.Core.Path.{_≡_, refl, sym, ap, subst, _∙_}
+use mathlib.Core.List.{List, [], _∷_, _++_}
+use Prim.Native.Nat.{ℕ, _+_, _/_, _%_, _<_, _≤_}
+use lib.Dec.{ltb}
+use lib.ListN.{length, take, drop, set, length-set, length-drop}
+use lib.Seq.{drop-cons}
+use Rattle.unit.specs.declared.Status.{Status}
+use Rattle.unit.specs.Unit.{code, unitOf}
 use Rattle.unit.specs.Proving.{table8}
-use Rattle.table6.specs.Cell.{MAAL-PROVING-indication}
-use Rattle.table6.specs.SignalCodes.{ESTABLISH-request}
-use Rattle.table6.specs.Stored.{words, wordAt}
-use Rattle.table6.proofs.Lists.{past, missed-from}
+use Rattle.table6.specs.Stored.{wordAt}
+use Rattle.table6.proofs.Lists.{alike-from}
+use Rattle.link.specs.declared.Carries.{Carries}
 use Rattle.link.specs.declared.Said.{Said}
 use Rattle.link.specs.Stored.{meantBy}
+use Rattle.octet.specs.Octets.{at, putAt}
 use Rattle.event.specs.Frame.{messageOf}
-use Rattle.signal.specs.Writing.{fromCode, PutCode}
+use Rattle.event.proofs.Frame.{length-octets}
+use Rattle.signal.specs.SignalRecord.{bodyOf}
+use Rattle.signal.specs.Writing.{fromCode, carryingAt, PutCode}
+use Rattle.signal.proofs.SignalRecord.{last-word, stored, with-body, with-end}
 use Rattle.signal.proofs.put_carrying.Statement.{statement}
 use Rattle.signal.proofs.put_carrying.Tie as tie
 
--- a request or a response has the code at its place, and offers what Table 8 says
-by-word : (o : Said) (m : List ℕ) (w : ℕ) {x y : ℕ} → (38 ≡ w) ⊎ (39 ≡ w) → x ≡ ESTABLISH-request + (w - 38) → y ≡ code (table8 (o .mps) (o .ups)) →
-    set (x ∷ 0 ∷ 0 ∷ 0 ∷ 0 ∷ 0 ∷ 0 ∷ 0 ∷ []) 1 y ≡ fromCode m (meantBy o (wordAt w))
-by-word o m w (inl e) p q = rw (p, q, ← e) refl
-by-word o m w (inr e) p q = rw (p, q, ← e) refl
+-- WHAT EACH RANGE OF WORDS COMES TO
 
-one-of-two : (w : ℕ) → (38 ≡ w) ⊎ (38 < w) → w < 40 → (38 ≡ w) ⊎ (39 ≡ w)
-one-of-two w (inl e) k = inl e
-one-of-two w (inr h) k = inr (omega arith)
+module _ (o : Said) (m : List ℕ) (w : ℕ) where
+  of-message : (b : Bool) → 44 ≤ w → ltb w 46 ≡ b → take 6 (carryingAt w) ++ (length m / 256 ∷ length m % 256 ∷ m) ≡ fromCode m (meantBy o (wordAt w))
+  of-message true h e = alike-from (λ w. take 6 (carryingAt w) ++ (length m / 256 ∷ length m % 256 ∷ m)) (λ w. fromCode m (meantBy o (wordAt w))) 44 2 [] refl w h (ltb-true w 46 e)
+  of-message false h e = rw (last-word w (ltb-false w 46 e)) refl
 
-offers : (o : Said) (m : List ℕ) (w : ℕ) {x y r : ℕ} {out d : List ℕ} → 38 ≤ w → w < 40 → x ≡ ESTABLISH-request + (w - 38) → y ≡ code (table8 (o .mps) (o .ups)) →
-    PutCode (set (x ∷ 0 ∷ 0 ∷ 0 ∷ 0 ∷ 0 ∷ 0 ∷ 0 ∷ []) 1 y) out r d → PutCode (fromCode m (meantBy o (wordAt w))) out r d
-offers o m w {r = r} {out = out} {d = d} h k p q = subst (λ (l : List ℕ). PutCode l out r d) (by-word o m w (one-of-two w (eq-or-lt-of-le h) k) p q)
+  of-offer : 40 ≤ w → w < 42 → set (carryingAt w) 1 (code (table8 (o .mps) (o .ups))) ≡ fromCode m (meantBy o (wordAt w))
+  of-offer h k = alike-from (λ w. set (carryingAt w) 1 (code (table8 (o .mps) (o .ups)))) (λ w. fromCode m (meantBy o (wordAt w))) 40 2 [] refl w h k
 
--- none of the words that carry something
-beyond-all : {A B : Type 0} (w : ℕ) → 36 ≤ w → (A → w < 36) → (B → 40 ≤ w) → A ⊎ B → 40 ≤ w
-beyond-all w h f g (inl x) = let k = f x in omega (arith, k)
-beyond-all w h f g (inr y) = g y
+  of-param : 38 ≤ w → w < 40 → set (carryingAt w) 1 (o .param) ≡ fromCode m (meantBy o (wordAt w))
+  of-param h k = alike-from (λ w. set (carryingAt w) 1 (o .param)) (λ w. fromCode m (meantBy o (wordAt w))) 38 2 [] refl w h k
 
-with-param-requires : tie.Need-with-param-requires
-with-param-requires c κs = search needs
+unit-ins : (o : Said) (m : List ℕ) → carryingAt 43 ++ unitOf Status.INS ≡ fromCode m (meantBy o (wordAt 43))
+unfolding unitOf
+unit-ins o m = refl
 
-with-number-requires : tie.Need-with-number-requires
-with-number-requires c κs = search needs
+unit-nm : (o : Said) (m : List ℕ) → carryingAt 42 ++ unitOf Status.NM ≡ fromCode m (meantBy o (wordAt 42))
+unfolding unitOf
+unit-nm o m = refl
 
-with-number-requires-2 : tie.Need-with-number-requires-2
-with-number-requires-2 c κs = search needs
+of-unit : (s : Status) (w k : ℕ) {l d d₁ d₂ : List ℕ} {r : ℕ} → w ≡ k → carryingAt k ++ unitOf s ≡ l → length (carryingAt k) ≡ 8 → 12 ≤ length d → PutCode (carryingAt w) d 12 d₁ →
+    (r ≡ 12 + length (unitOf s)) × (d₂ ≡ putAt d₁ 12 (unitOf s)) → PutCode l d r d₂
+of-unit s w k {d = d} {d₁ = d₁} {d₂ = d₂} {r = r} q e n h p g =
+    let p′ = subst (λ (w : ℕ). PutCode (carryingAt w) d 12 d₁) q p in
+    subst (λ (l : List ℕ). PutCode l d r d₂) e (with-body p′ h (unitOf s) (g .1 ∙ ap (λ (j : ℕ). putAt d₁ (4 + j) (unitOf s)) (sym n)) (g .0))
 
-with-param-requires-2 : tie.Need-with-param-requires-2
-with-param-requires-2 c κs = search needs
+of-param-set : (s : List ℕ) (v : ℕ) {l d d₁ d₂ : List ℕ} {r : ℕ} → length s ≡ 8 → 12 ≤ length d → PutCode s d 12 d₁ → (r ≡ 12) × (d₂ ≡ set d₁ 5 v) → set s 1 v ≡ l → PutCode l d r d₂
+of-param-set s v {d = d} n h p g e =
+    let q = stored p h 1 v (omega (arith, n)) in
+    record { answer = g .0 ∙ q .answer ∙ ap (λ (x : List ℕ). 4 + length x) e; written = g .1 ∙ q .written ∙ ap (putAt d 4) e }
 
-with-message-requires : tie.Need-with-message-requires
-with-message-requires c κs = (c .before .before .before .before .before .before .pre .1, rw (c .before .match .keys5) at (c .before .before .before .before .before .before .pre .2))
+of-number-set : (w k : ℕ) (a b c : ℕ) {l d d₁ d₂ : List ℕ} {r : ℕ} → w ≡ k → length (carryingAt k) ≡ 8 → 12 ≤ length d → PutCode (carryingAt w) d 12 d₁ →
+    (r ≡ 12) × (d₂ ≡ set (set (set d₁ 6 a) 7 b) 8 c) → set (set (set (carryingAt k) 2 a) 3 b) 4 c ≡ l → PutCode l d r d₂
+of-number-set w k a b c {d = d} {d₁ = d₁} z n h p g e =
+    let t = carryingAt k in
+    let x = length-set t 2 a in
+    let y = length-set (set t 2 a) 3 b in
+    let p′ = subst (λ (w : ℕ). PutCode (carryingAt w) d 12 d₁) z p in
+    let q = stored (stored (stored p′ h 2 a (omega (arith, n))) h 3 b (omega (arith, n, x))) h 4 c (omega (arith, n, x, y)) in
+    record { answer = g .0 ∙ q .answer ∙ ap (λ (x : List ℕ). 4 + length x) e; written = g .1 ∙ q .written ∙ ap (putAt d 4) e }
 
-with-message-requires-2 : tie.Need-with-message-requires-2
-with-message-requires-2 c κs = (c .before .before .before .before .before .before .pre .1, rw (c .before .match .keys6) at (c .before .before .before .before .before .before .pre .2))
+carries-message : (o : Said) (w : ℕ) (b : Bool) → 44 ≤ w → ltb w 46 ≡ b → meantBy o (wordAt w) .carries ≡ Carries.Message
+carries-message o w true h e = alike-from (λ w. meantBy o (wordAt w) .carries) (λ w. Carries.Message) 44 2 Carries.Nothing refl w h (ltb-true w 46 e)
+carries-message o w false h e = rw (last-word w (ltb-false w 46 e)) refl
 
-with-message-requires-3 : tie.Need-with-message-requires-3
-with-message-requires-3 c κs = (c .before .before .before .before .before .before .pre .1, rw (c .before .match .keys7) at (c .before .before .before .before .before .before .pre .2))
+-- an event from its length on
+tail : (e : List ℕ) → 12 ≤ length e → drop 10 e ≡ at e 10 ∷ at e 11 ∷ messageOf e
+tail e h = drop-cons e 10 0 (omega arith) ∙ ap (λ (l : List ℕ). at e 10 ∷ l) (drop-cons e 11 0 (omega arith))
 
-with-unit-requires : tie.Need-with-unit-requires
-with-unit-requires c κs = rw (c .before .match .keys8) at (c .before .before .before .before .before .before .pre .2)
+-- THE EIGHT OCTETS ARE WRITTEN
 
-with-unit-requires-2 : tie.Need-with-unit-requires-2
-with-unit-requires-2 c κs = rw (c .before .match .keys9) at (c .before .before .before .before .before .before .pre .2)
+carrying-requires : tie.Need-carrying-requires
+carrying-requires c κs = search needs
 
-establishing-requires : tie.Need-establishing-requires
-establishing-requires c κs = (omega (arith, c .before .before .before .before .before .before .before .before .pre .0, c .before .before .before .match .rest .0 .0 .0 .0 .0 .0 .0 .0 .1, c .before .before .before .match .rest .0 .0 .0 .0 .0 .0 .0 .1), omega (arith, c .before .if2 .taken))
+slice-aggregate-put-at : tie.Need-slice-aggregate-put-at
+slice-aggregate-put-at c = search needs
 
-offered-requires : tie.Need-offered-requires
-offered-requires c κs = search needs
+put-at-requires : tie.Need-put-at-requires
+put-at-requires c κs = search needs
 
-with-param-requires-3 : tie.Need-with-param-requires-3
-with-param-requires-3 c κs = search needs
+abbrev S : tie.After-slice-known2 → tie.Start
+S c = c .before .before .before .before .before .before .before .before .before .before
 
-put-fixed-requires : tie.Need-put-fixed-requires
-put-fixed-requires c κs = search needs
+written : (c : tie.After-slice-known2) → PutCode (carryingAt (S c .args .w)) (S c .args .out .now) 12 (c .before .before .put-at .last .0)
+written c =
+    let n = slice-aggregate-put-at (c .before .before .before) in
+    record {
+      answer = omega (arith, n, ap length (c .before .before .before .before .before .carrying .ensures));
+      written = c .before .before .put-at .ensures ∙ ap (putAt (S c .args .out .now) 4) (c .before .before .before .before .before .carrying .ensures);
+    }
+
+-- and there is room for twelve
+twelve : (c : tie.After-slice-known2) → 12 ≤ length (S c .args .out .now)
+twelve c = omega (arith, S c .pre .2)
+
+eight-long : (c : tie.After-slice-known2) → length (carryingAt (S c .args .w)) ≡ 8
+eight-long c = omega (arith, written c .answer)
 
 same-length : tie.Need-same-length
 same-length c = search needs
 
+with-message-requires : tie.Need-with-message-requires
+with-message-requires c κs =
+    let s = S (c .before .before) in
+    let w = s .args .w in
+    let h = rw (carries-message (s .args .said) w (ltb w 46) (c .before .if1 .taken) refl) at (s .pre .2) in
+    (s .pre .1, omega (arith, h, s .pre .1 .0, length-drop 12 (s .args .e .now)))
+
 returns : tie.Need-returns
-returns c = rw (c .before .before .before .before .match .keys1) (c .before .before .with-param .ensures)
+returns c =
+    let k : tie.After-slice-known2 = c .before .before .before .before .before in
+    let a = S k .args in
+    let e = a .e .now in
+    let m = messageOf e in
+    let h = S k .pre .1 in
+    let l = length-octets e (omega (arith, k .before .before .before .before .before .before .before .before .shared-slice-known .given 11)) (h .1) in
+    let p = with-end (written k) (twelve k) 6 (drop 10 e) (eight-long k) (omega arith) (omega (arith, length-drop 10 e, h .0)) in
+    let t : drop 10 e ≡ length m / 256 ∷ length m % 256 ∷ m = tail e (h .0) ∙ (λ i. sym (l .0) i ∷ sym (l .1) i ∷ m) in
+    let q = ap (λ (x : List ℕ). take 6 (carryingAt (a .w)) ++ x) t ∙ of-message (a .said) m (a .w) (ltb (a .w) 46) (c .before .before .before .before .if1 .taken) refl in
+    let g = c .before .before .with-message .ensures in
+    record {
+      answer = omega (arith, g .0, p .answer, ap length q, length-drop 10 e, h .0);
+      written = g .1 ∙ p .written ∙ ap (putAt (a .out .now) 4) q;
+    }
+
+with-unit-requires : tie.Need-with-unit-requires
+with-unit-requires c κs =
+    let s = S (c .before .before .before) in
+    let q : s .args .w ≡ 43 = omega (arith, c .before .if2 .taken, c .before .before .if1 .left) in
+    let a = s .args in
+    let h = subst (λ (w : ℕ). 12 + length (bodyOf (meantBy (a .said) (wordAt w) .carries) (messageOf (a .e .now))) ≤ length (a .out .now)) q (s .pre .2) in
+    omega (arith, h)
 
 same-length-2 : tie.Need-same-length-2
 same-length-2 c = search needs
 
 returns-2 : tie.Need-returns-2
-returns-2 c = rw (c .before .before .before .before .match .keys2) (c .before .before .with-number .ensures)
+returns-2 c =
+    let k : tie.After-slice-known2 = c .before .before .before .before .before .before in
+    let a = S k .args in
+    let q : a .w ≡ 43 = omega (arith, c .before .before .before .before .if2 .taken, c .before .before .before .before .before .if1 .left) in
+    rw q (of-unit Status.INS (a .w) 43 q (unit-ins (a .said) (messageOf (a .e .now))) refl (twelve k) (written k) (c .before .before .with-unit .ensures))
+
+with-unit-requires-2 : tie.Need-with-unit-requires-2
+with-unit-requires-2 c κs =
+    let s = S (c .before .before .before .before) in
+    let q : s .args .w ≡ 42 = omega (arith, c .before .if3 .taken, c .before .before .if2 .left) in
+    let a = s .args in
+    let h = subst (λ (w : ℕ). 12 + length (bodyOf (meantBy (a .said) (wordAt w) .carries) (messageOf (a .e .now))) ≤ length (a .out .now)) q (s .pre .2) in
+    omega (arith, h)
 
 same-length-3 : tie.Need-same-length-3
 same-length-3 c = search needs
 
 returns-3 : tie.Need-returns-3
-returns-3 c = rw (c .before .before .before .before .match .keys3) (c .before .before .with-number2 .ensures)
+returns-3 c =
+    let k : tie.After-slice-known2 = c .before .before .before .before .before .before .before in
+    let a = S k .args in
+    let q : a .w ≡ 42 = omega (arith, c .before .before .before .before .if3 .taken, c .before .before .before .before .before .if2 .left) in
+    rw q (of-unit Status.NM (a .w) 42 q (unit-nm (a .said) (messageOf (a .e .now))) refl (twelve k) (written k) (c .before .before .with-unit2 .ensures))
+
+offered-requires : tie.Need-offered-requires
+offered-requires c κs = search needs
+
+with-param-requires : tie.Need-with-param-requires
+with-param-requires c κs = search needs
 
 same-length-4 : tie.Need-same-length-4
 same-length-4 c = search needs
 
 returns-4 : tie.Need-returns-4
-returns-4 c = rw (c .before .before .before .before .match .keys4) (c .before .before .with-param2 .ensures)
+returns-4 c =
+    let k : tie.After-slice-known2 = c .before .before .before .before .before .before .before .before .before in
+    let a = S k .args in
+    of-param-set (carryingAt (a .w)) (c .before .before .before .offered .result) (eight-long k) (twelve k) (written k) (c .before .before .with-param .ensures)
+    (ap (set (carryingAt (a .w)) 1) (c .before .before .before .offered .ensures) ∙ of-offer (a .said) (messageOf (a .e .now)) (a .w) (c .before .before .before .before .before .if4 .taken) (c .before .before .before .before .before .before .if3 .left))
+
+with-param-requires-2 : tie.Need-with-param-requires-2
+with-param-requires-2 c κs = search needs
 
 same-length-5 : tie.Need-same-length-5
 same-length-5 c = search needs
 
 returns-5 : tie.Need-returns-5
-returns-5 c = rw (c .before .before .before .before .match .keys5) (c .before .before .with-message .ensures)
+returns-5 c =
+    let k : tie.After-slice-known2 = c .before .before .before .before .before .before .before .before .before in
+    let a = S k .args in
+    of-param-set (carryingAt (a .w)) (a .said .param) (eight-long k) (twelve k) (written k) (c .before .before .with-param2 .ensures)
+    (of-param (a .said) (messageOf (a .e .now)) (a .w) (c .before .before .before .before .if5 .taken) (c .before .before .before .before .before .if4 .left))
+
+with-number-requires : tie.Need-with-number-requires
+with-number-requires c κs = search needs
 
 same-length-6 : tie.Need-same-length-6
 same-length-6 c = search needs
 
 returns-6 : tie.Need-returns-6
-returns-6 c = rw (c .before .before .before .before .match .keys6) (c .before .before .with-message2 .ensures)
+returns-6 c =
+    let k : tie.After-slice-known2 = c .before .before .before .before .before .before .before .before .before .before in
+    let a = S k .args in
+    let n = a .said .num in
+    let q : a .w ≡ 37 = omega (arith, c .before .before .before .before .if6 .taken, c .before .before .before .before .before .if5 .left) in
+    rw q (of-number-set (a .w) 37 (n .a) (n .b) (n .c) q refl (twelve k) (written k) (c .before .before .with-number .ensures) refl)
+
+with-number-requires-2 : tie.Need-with-number-requires-2
+with-number-requires-2 c κs = search needs
 
 same-length-7 : tie.Need-same-length-7
 same-length-7 c = search needs
 
 returns-7 : tie.Need-returns-7
-returns-7 c = rw (c .before .before .before .before .match .keys7) (c .before .before .with-message3 .ensures)
-
-same-length-8 : tie.Need-same-length-8
-same-length-8 c = search needs
-
-returns-8 : tie.Need-returns-8
-returns-8 c = rw (c .before .before .before .before .match .keys8) (c .before .before .with-unit .ensures)
-
-same-length-9 : tie.Need-same-length-9
-same-length-9 c = search needs
-
-returns-9 : tie.Need-returns-9
-returns-9 c = rw (c .before .before .before .before .match .keys9) (c .before .before .with-unit2 .ensures)
-
-same-length-10 : tie.Need-same-length-10
-same-length-10 c = search needs
-
-returns-10 : tie.Need-returns-10
-returns-10 c =
-    let s = c .before .before .before .before .before .before .before .before .before .before .before .before .before in
-    let w = s .args .w in
-    offers (s .args .said) (messageOf (s .args .e .now)) w (omega (arith, s .pre .0, c .before .before .before .before .before .before .before .before .match .rest .0 .0 .0 .0 .0 .0 .0 .0 .1, c .before .before .before .before .before .before .before .before .match .rest .0 .0 .0 .0 .0 .0 .0 .1)) (c .before .before .before .before .before .before .if2 .taken) (c .before .before .before .before .establishing .ensures) (c .before .before .before .offered .ensures)
-    (c .before .before .with-param3 .ensures)
-
-same-length-11 : tie.Need-same-length-11
-same-length-11 c = search needs
-
-returns-11 : tie.Need-returns-11
-returns-11 c =
-    let s = c .before .before .before .before .before .before .before .before .before .before in
-    let w = s .args .w in
-    let r = c .before .before .before .before .before .match .rest in
-    let h = beyond-all w (s .pre .0) (λ x. x .taken) (λ x. x .1 .left) (c .before .before .before .before .if1 .came) in
-    rw (← past words w MAAL-PROVING-indication (missed-from 40 w 7 h (((((((tt, r .0 .0 .0 .0 .0 .0 .1), r .0 .0 .0 .0 .0 .1), r .0 .0 .0 .0 .1), r .0 .0 .0 .1), r .0 .0 .1), r .0 .1), r .1))) (c .before .before .put-fixed .ensures)
+returns-7 c =
+    let k : tie.After-slice-known2 = c .before .before .before .before .before .before .before .before .before .before in
+    let a = S k .args in
+    let n = a .said .bsnt in
+    let q : a .w ≡ 36 = omega (arith, S k .pre .0, c .before .before .before .before .if6 .left) in
+    rw q (of-number-set (a .w) 36 (n .a) (n .b) (n .c) q refl (twelve k) (written k) (c .before .before .with-number2 .ensures) refl)
 
 pub put-carrying-spec : {M : Type 1} → statement M
 put-carrying-spec =
     tie.close
     (tie.spec
-    with-param-requires
-    with-number-requires
-    with-number-requires-2
-    with-param-requires-2
+    carrying-requires
+    slice-aggregate-put-at
+    put-at-requires
     with-message-requires
-    with-message-requires-2
-    with-message-requires-3
-    with-unit-requires
-    with-unit-requires-2
-    establishing-requires
-    offered-requires
-    with-param-requires-3
-    put-fixed-requires
     same-length
     returns
+    with-unit-requires
     same-length-2
     returns-2
+    with-unit-requires-2
     same-length-3
     returns-3
+    offered-requires
+    with-param-requires
     same-length-4
     returns-4
+    with-param-requires-2
     same-length-5
     returns-5
+    with-number-requires
     same-length-6
     returns-6
+    with-number-requires-2
     same-length-7
-    returns-7
-    same-length-8
-    returns-8
-    same-length-9
-    returns-9
-    same-length-10
-    returns-10
-    same-length-11
-    returns-11)
+    returns-7)

@@ -1,13 +1,11 @@
 -- `signal::with_unit` meets its contract. Assumes nothing.
 use borrow.Author.Needs.{needs}
 use native.Mathlib.Omega.{arith}
+use mathlib.Core.Path.{refl, ap, _∙_}
 use Rattle.unit.specs.Unit.{unitOf}
-use Rattle.signal.proofs.SignalRecord.{with-body}
+use Rattle.octet.specs.Octets.{putAt}
 use Rattle.signal.proofs.with_unit.Statement.{statement}
 use Rattle.signal.proofs.with_unit.Tie as tie
-
-put-fixed-requires : tie.Need-put-fixed-requires
-put-fixed-requires c κs = search needs
 
 write-requires : tie.Need-write-requires
 write-requires c κs = search needs
@@ -29,15 +27,12 @@ same-length c = search needs
 
 returns : tie.Need-returns
 unfolding unitOf
-returns c =
-    let a = c .before .before .before .before .before .before .before .before .before .before .before .args in
-    with-body (c .before .before .before .before .before .before .before .before .put-fixed .ensures) (omega arith) (unitOf (a .s)) (rw (← c .before .before .before .before .before .write .ensures) (c .before .before .put-at .ensures)) (omega arith)
+returns c = (refl, c .before .before .put-at .ensures ∙ ap (putAt (c .before .before .before .before .before .before .before .args .out .now) 12) (c .before .before .before .before .before .write .ensures))
 
 pub with-unit-spec : {M : Type 1} → statement M
 with-unit-spec =
     tie.close
     (tie.spec
-    put-fixed-requires
     write-requires
     slice-aggregate-put-at
     put-at-requires

@@ -17,7 +17,7 @@ use Rattle.sscf.specs.declared.checks.Plan.{Plan}
 use Rattle.sscf.specs.Step.{checks, answered, answering}
 use Rattle.sscf.specs.Plan.{Planned}
 use Rattle.sscf.proofs.Places.{inside}
-use Rattle.sscf.proofs.Taken.{Taken, taken, message-small, room-for, step-refused, step-accepted}
+use Rattle.sscf.proofs.Taken.{Taken, taken, message-small, made-after, room-for, step-refused, step-accepted}
 use Rattle.sscf.proofs.sscf_step.Statement.{statement}
 use Rattle.sscf.proofs.sscf_step.Tie as tie
 
@@ -83,7 +83,7 @@ put-all-requires : tie.Need-put-all-requires
 put-all-requires c κs =
     let l = c .before .before .before .before .before .before .before .before in
     let f = tk l .sound in
-    (sound EV _ f .twelve, sym (message-length EV (E l) f), message-small (E l) f, omega (arith, fits l, tk l .wide))
+    (sound EV _ f .twelve, sym (message-length EV (E l) f), message-small (E l) f, made-after (T l) (E l) (go l .2) .one-brought, omega (arith, fits l, tk l .wide))
 
 cast-octets : tie.Need-cast-octets
 cast-octets c = omega (arith, c .before .before .put-all .ensures .answer, fits (c .before .before .before .before .before .before .before .before .before .before .before))
