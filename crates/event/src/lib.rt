@@ -30,7 +30,7 @@ fn framed(e: &[u8]) -> bool
         return false;
     }
     let len = wide(e[10], e[11]);
-    marked(e, &EV) & (e[9] == 0) & (len <= MESSAGE) & (HEAD + len as usize == e.len())
+    (len <= MESSAGE) && marked(e, &EV) && (e[9] == 0) && (HEAD + len as usize == e.len())
 }
 
 // The message, a part of the caller's own octets.

@@ -1,11 +1,13 @@
 -- How large a bit and an octet are, the two octets of a number, and a list as its octets. Assumes nothing.
 use Prim.Native.Nat.{ℕ, zero, suc, _+_, _*_, _/_, _%_, _<_, _≤_}
 use mathlib.Core.Path.{_≡_, refl, sym, ap, _∙_}
-use mathlib.Core.Bool.{Bool, true, false}
+use mathlib.Core.Bool.{Bool, true, false, _&&_}
 use mathlib.Core.List.{List, [], _∷_}
 use native.Mathlib.Omega.{arith}
+use lib.Dec.{eqb}
 use lib.ListN.{length}
-use Rattle.octet.specs.Octets.{Octets, at, bit}
+use borrow.Author.Tests.{eqb-true, eqb-false, eq-eqb, ne-eqb}
+use Rattle.octet.specs.Octets.{Octets, at, two, bit}
 
 pub bit-le : (b : Bool) → bit b ≤ 1
 bit-le true = omega arith
@@ -34,3 +36,11 @@ shifted x r i (suc n) = ap (λ (s : List ℕ). at r i ∷ s) (shifted x r (suc i
 pub listed : (r : List ℕ) → r ≡ listing r 0 (length r)
 listed [] = refl
 listed (x ∷ r) = ap (λ (s : List ℕ). x ∷ s) (listed r ∙ sym (shifted x r 0 (length r)))
+
+-- two numbers of two octets are one if the octets are
+pub two-same : (a b c d : ℕ) → a < 256 → c < 256 → eqb (two b a) (two d c) ≡ (eqb a c && eqb b d)
+two-same a b c d h k = by (eqb a c) (eqb b d) refl refl where
+  by : (x y : Bool) → eqb a c ≡ x → eqb b d ≡ y → eqb (two b a) (two d c) ≡ (x && y)
+  by true true p q = eq-eqb (two b a) (two d c) (omega (arith, eqb-true a c p, eqb-true b d q))
+  by true false p q = ne-eqb _ _ (λ (e : two b a ≡ two d c). eqb-false b d q (omega (arith, eqb-true a c p, e)))
+  by false y p q = ne-eqb _ _ (λ (e : two b a ≡ two d c). eqb-false a c p (omega (arith, e)))

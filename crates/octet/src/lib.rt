@@ -2,7 +2,7 @@
 
 ghost use mathlib.Core.Path.{_≡_};
 ghost use mathlib.Core.Bool.{_&&_};
-ghost use Prim.Native.Nat.{_+_, _≤_};
+ghost use Prim.Native.Nat.{_+_, _<_, _≤_};
 ghost use lib.Dec.{eqb};
 ghost use lib.ListN.{length};
 ghost use Rattle.octet.specs.Octets.{at, two, over, putAt};
@@ -14,12 +14,12 @@ pub fn wide(a: u8, b: u8) -> u16
     a as u16 * 256 + b as u16
 }
 
-// Whether octets begin with a mark.
+// Whether octets begin with a mark. The two are compared as one number, the lower octet first, which the compiler reads at once.
 pub fn marked(r: &[u8], mark: &[u8; 2]) -> bool
-    requires { ⌜ 2 ≤ length (now r) ⌝ }
+    requires { ⌜ (2 ≤ length (now r)) × (at (now mark) 0 < 256) ⌝ }
     ensures { λ b. ⌜ b ≡ (eqb (at (now (r .entry)) 0) (at (now (mark .entry)) 0) && eqb (at (now (r .entry)) 1) (at (now (mark .entry)) 1)) ⌝ }
 {
-    (r[0] == mark[0]) & (r[1] == mark[1])
+    wide(r[1], r[0]) == wide(mark[1], mark[0])
 }
 
 // Writes src over the front of dst.
