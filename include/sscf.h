@@ -122,7 +122,7 @@
  *   that is congested, hand in CONGESTION for it (again): this gives the connection up, and the
  *   link tries again after T1.
  *
- * Where the stack is short: a step takes 168 octets, by the archive's listing. glibc's memmove
+ * Where the stack is short: a step takes 136 octets, by the archive's listing. glibc's memmove
  * takes none, but where it is bound lazily its first call runs the dynamic loader, which took
  * 3 KB with 0.1.1, on a painted stack.
  */
