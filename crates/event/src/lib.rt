@@ -22,7 +22,8 @@ pub const MESSAGE: u16 = 4096;
 // The mark of an event.
 const EV: [u8; 2] = *b"EV";
 
-// At least twelve octets, the mark, octet 9 zero, and a length that is that of what follows.
+// At least twelve octets, the mark, octet 9 zero, and a length, at most 4,096, that is that of what follows. It is left at the first that fails, and the length comes
+// before the mark (D63).
 fn framed(e: &[u8]) -> bool
     ensures { λ r. ⌜ r ≡ framed (now (e .entry)) ⌝ }
 {

@@ -3,7 +3,7 @@ use mathlib.Core.Path.{_≡_, refl, ap, _∙_}
 use mathlib.Core.List.{List, [], _∷_, map}
 use Prim.Native.Nat.{ℕ, zero, suc, _/_, _^_}
 use lib.ListN.{length}
-use Rattle.table6.specs.Stored.{wordAt, wordCount, lowest, said}
+use Rattle.table6.specs.Stored.{wordAt, wordCount, lowest}
 use Rattle.link.specs.declared.Said.{Said}
 use Rattle.link.specs.Stored.{meantBy, signalsOf}
 

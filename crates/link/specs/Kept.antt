@@ -24,7 +24,7 @@ abbrev pub messages : List Signal → ℕ
 messages [] = 0
 messages (s ∷ others) = messagesIn (s .carries) + messages others
 
--- A signal that carries what the event or the link brings: a message or a unit, a number, a parameter; of the REPORTs the one of SSCOP-UU.
+-- A signal that carries what the event or the link brings: a message, a number, a parameter; of the REPORTs the one of SSCOP-UU. A unit counts with them.
 abbrev pub brings : Signal → Bool
 brings s =
     eqb (s .code) RECEIVED-MESSAGE

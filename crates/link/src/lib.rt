@@ -2,6 +2,7 @@
 use table6::Facts;
 use table6::Met;
 use table6::State;
+use table6::effects;
 use table6::rows;
 use unit::Arrived;
 use unit::Mps;
@@ -450,7 +451,7 @@ pub struct Said {
 pub fn count(o: Said) -> u8
     ensures { λ r. ⌜ r ≡ length (signalsOf o) ⌝ }
 {
-    (o.words / 262144 % 16) as u8
+    (o.words / effects::SAYS % 16) as u8
 }
 
 // What is said with the words of a cell.

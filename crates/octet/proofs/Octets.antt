@@ -37,7 +37,7 @@ pub listed : (r : List ℕ) → r ≡ listing r 0 (length r)
 listed [] = refl
 listed (x ∷ r) = ap (λ (s : List ℕ). x ∷ s) (listed r ∙ sym (shifted x r 0 (length r)))
 
--- two numbers of two octets are one if the octets are
+-- two numbers of two octets are equal exactly if their octets are
 pub two-same : (a b c d : ℕ) → a < 256 → c < 256 → eqb (two b a) (two d c) ≡ (eqb a c && eqb b d)
 two-same a b c d h k = by (eqb a c) (eqb b d) refl refl where
   by : (x y : Bool) → eqb a c ≡ x → eqb b d ≡ y → eqb (two b a) (two d c) ≡ (x && y)

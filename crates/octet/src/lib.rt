@@ -14,7 +14,7 @@ pub fn wide(a: u8, b: u8) -> u16
     a as u16 * 256 + b as u16
 }
 
-// Whether octets begin with a mark. The two are compared as one number, the lower octet first, which the compiler reads at once.
+// Whether octets begin with a mark. The two are compared as one number in which the first is the lower octet: so the compiler reads both at once.
 pub fn marked(r: &[u8], mark: &[u8; 2]) -> bool
     requires { ⌜ (2 ≤ length (now r)) × (at (now mark) 0 < 256) ⌝ }
     ensures { λ b. ⌜ b ≡ (eqb (at (now (r .entry)) 0) (at (now (mark .entry)) 0) && eqb (at (now (r .entry)) 1) (at (now (mark .entry)) 1)) ⌝ }

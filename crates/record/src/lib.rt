@@ -116,7 +116,7 @@ pub fn pack(l: Link) -> [u8; 16]
     ]
 }
 
-// Whether all is well-formed but state and MPS. n1 is looked at first, since it is kept as it is: then the fewest octets wait in memory (D63).
+// Whether all is well-formed but state and MPS. n1 is looked at right behind the mark, since no step alters it: then fewer octets wait in memory (D63).
 fn rest_formed(r: &[u8]) -> bool
     requires { ⌜ length (now r) ≡ 16 ⌝ }
     ensures { λ b. ⌜ b ≡ restFormed (now (r .entry)) ⌝ }

@@ -1,8 +1,8 @@
 -- Runs of signals that are known beforehand, and what the words of a step come to around the one that carries something. Assumes nothing.
 use mathlib.Core.Path.{_≡_, refl, sym, ap, subst, _∙_}
-use mathlib.Core.Bool.{Bool, true, false, cond}
-use mathlib.Core.Logic.{_⊎_, inl, inr}
-use mathlib.Core.List.{List, [], _∷_, _++_, map, append-assoc, append-nil}
+use mathlib.Core.Bool.{Bool, true, false}
+use mathlib.Core.Logic.{inl, inr}
+use mathlib.Core.List.{List, [], _++_, map, append-assoc, append-nil}
 use Prim.Native.Nat.{ℕ, zero, suc, _+_, _-_, _*_, _/_, _%_, _≤_, _<_}
 use native.Mathlib.Omega.{arith}
 use lib.Dec.{ltb}
@@ -94,7 +94,7 @@ three x y z {d} {d₂ = d₂} {b = b} p pa q qb s sr =
 
 -- THE SIGNALS OF SOME WORDS
 
--- a sum that is counted on from the one
+-- l and i more, by clauses on i: the prover's own sum has none
 abbrev plus : ℕ → ℕ → ℕ
 plus zero l = l
 plus (suc i) l = suc (plus i l)
@@ -143,7 +143,7 @@ others-bring : (o : Said) (i l rest : ℕ) → brought (spoken o l (after i rest
 others-bring o zero l rest = omega arith
 others-bring o (suc i) l rest = omega (arith, others-bring o i l (rest / 256))
 
--- behind a run as many are said as in all, or fewer
+-- of those behind a run no more carry something than of all
 pub behind-brings : (o : Said) (n i l rest : ℕ) → l + i ≡ n → brought (spoken o l (after i rest)) ≤ brought (spoken o n rest)
 behind-brings o n i l rest h = subst (λ (k : ℕ). brought (spoken o l (after i rest)) ≤ brought (spoken o k rest)) (plus-add i l ∙ h) (others-bring o i l rest)
 

@@ -4,7 +4,7 @@ use mathlib.Core.List.{List, [], _∷_, _++_}
 use Prim.Native.Nat.{ℕ, zero, suc, _+_, _*_, _≤_, _<_}
 use native.Mathlib.Nat.{add-mul}
 use native.Mathlib.Omega.{arith}
-use lib.ListN.{length, take, drop, set, length-set, length-append}
+use lib.ListN.{length, take, set, length-set, length-append}
 use lib.Seq.{length-take-le, take-append-seam, drop-append-seam}
 use Rattle.unit.specs.Unit.{unitOf}
 use Rattle.table6.specs.Words.{Parameter-Data}
@@ -41,7 +41,7 @@ fixed-known o m w h = alike fixedAt (λ w. fromCode m (meantBy o (wordAt w))) 36
 pub last-word : (w : ℕ) → 46 ≤ w → wordAt w ≡ Told.AA-DATA-request Parameter-Data
 last-word w h = sym (past words w (Told.AA-DATA-request Parameter-Data) h)
 
--- eight octets are written; some are stored anew, and a message is put behind them
+-- eight octets are written; some are stored anew, or a unit is put behind them, or a message with its length over their end
 module _ {s d d₁ : List ℕ} {r : ℕ} (p : PutCode s d r d₁) (h : 12 ≤ length d) where
   pub stored : (i v : ℕ) → i < length s → PutCode (set s i v) d r (set d₁ (4 + i) v)
   stored i v g =

@@ -19,7 +19,7 @@ use Rattle.signal.specs.SignalRecord.{bodyOf}
 abbrev pub Whole : List ℕ → Type 0
 Whole e = (headOctets ≤ length e) × (lengthAt e ≡ length (messageOf e)) × (length (messageOf e) ≤ messageOctets)
 
--- the mark and the link's number, as a signal has them and the event
+-- a signal's mark, and the link's number as the event's octets have it
 abbrev pub frontOf : List ℕ → List ℕ
 frontOf e = at SG 0 ∷ at SG 1 ∷ at e 2 ∷ at e 3 ∷ []
 
@@ -36,7 +36,7 @@ pub record PutCode (octets out : List ℕ) (r : ℕ) (out′ : List ℕ) : Type 
 abbrev pub fixedWords : ℕ
 fixedWords = 36
 
--- a word's octets where they bring nothing
+-- a word's octets where event and link bring nothing
 abbrev pub fixedOf : ℕ → List ℕ
 fixedOf w = fromCode [] (signalOf 0 none Mps.Neutral Ups.Normal none (wordAt w))
 
@@ -48,7 +48,7 @@ fixedAt w = getD (from fixedOf 0 fixedWords) w (fixedOf 12)
 abbrev pub carryingAt : ℕ → List ℕ
 carryingAt w = take 8 (fixedOf w)
 
--- RUNS of signals that are known beforehand: the octets of i of them, by the words from the lowest on; what is left of the words; and that each is one.
+-- RUNS of signals that are known beforehand: the octets of i of them, by the words from the lowest on; what is left of the words; and that each of them is known beforehand.
 abbrev pub known : List ℕ → ℕ → ℕ → List ℕ
 known front zero rest = []
 known front (suc i) rest = (front ++ fixedAt (rest % 256)) ++ known front i (rest / 256)

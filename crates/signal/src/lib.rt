@@ -100,7 +100,7 @@ fn fixed(w: u64) -> [u8; 8]
     }
 }
 
-// The same of a signal that carries something, before it is in its place. A word past the last stands for it.
+// The same of a signal that carries something, before that is stored. The last arm is that of DATA, and of any word past it.
 fn carrying(w: u64) -> [u8; 8]
     requires { ⌜ fixedWords ≤ w ⌝ }
     ensures { λ r. ⌜ r ≡ carryingAt w ⌝ }
@@ -150,8 +150,8 @@ fn with_unit(out: &mut [u8], s: Status) -> usize
     HEAD + UNIT as usize
 }
 
-// The same with the event's length and message. They go by way of an array of this function's own, which overlaps neither, and so the compiler makes one block
-// copy of the two.
+// The same with the event's length and message. They go by way of an array of this function's own, as long as the longest of both, which overlaps neither: so the
+// compiler makes one block copy of the two.
 fn with_message(out: &mut [u8], e: &[u8]) -> usize
     requires { ⌜ Whole (now e) × (length (now e) ≤ length (now out)) ⌝ }
     ensures { λ r. ⌜ (r ≡ length (now (e .entry))) × (now (out .exit) ≡ putAt (now (out .entry)) 10 (drop 10 (now (e .entry)))) ⌝ }
@@ -270,7 +270,7 @@ pub fn put_all(out: &mut [u8], said: Said, e: &[u8]) -> usize
         front,
         Run {
             at: 0,
-            rest: said.words / 16777216,
+            rest: said.words / effects::FIRST,
             left: n,
         },
     );

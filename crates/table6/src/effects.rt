@@ -52,9 +52,9 @@ const INS_1: u64 = 16384;
 const LPO_1: u64 = 32768;
 
 // A signal more, and the places of the signals.
-const SAYS: u64 = 262144;
+pub const SAYS: u64 = 262144;
 
-const FIRST: u64 = 16777216;
+pub const FIRST: u64 = 16777216;
 
 const SECOND: u64 = 256 * FIRST;
 
@@ -155,8 +155,7 @@ pub const SET_T2: u64 = 34;
 
 pub const SET_T3: u64 = 35;
 
-// From here on a signal carries what the event or the link brings, alike from two to two: a number, a parameter, what Table 8 offers, a unit; the last three a
-// message.
+// From here on a signal carries something, in pairs that carry alike: a number, the event's parameter, what Table 8 offers, a unit; the last three a message.
 pub const CARRYING: u64 = 36;
 
 pub const BSNT: u64 = 36;

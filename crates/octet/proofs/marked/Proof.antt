@@ -1,8 +1,7 @@
 -- `octet::marked` meets its contract. Assumes nothing.
 use borrow.Author.Needs.{needs}
 use native.Mathlib.Omega.{arith}
-use mathlib.Core.Path.{_≡_, _∙_}
-use Prim.Native.Nat.{ℕ, _<_}
+use mathlib.Core.Path.{_∙_}
 use lib.Dec.{eqb}
 use Rattle.octet.specs.Octets.{at}
 use Rattle.octet.proofs.Octets.{two-same}

@@ -2,9 +2,9 @@
 use borrow.Author.Needs.{needs}
 use native.Mathlib.Omega.{arith}
 use mathlib.Core.Path.{_≡_, refl, sym, ap, subst, _∙_}
-use mathlib.Core.Logic.{_⊎_, inl, inr}
+use mathlib.Core.Logic.{inl, inr}
 use mathlib.Core.List.{List, [], _++_, append-nil}
-use Prim.Native.Nat.{ℕ, zero, suc, _+_, _-_, _*_, _/_, _%_, _≤_}
+use Prim.Native.Nat.{ℕ, suc, _+_, _-_, _*_, _/_, _%_, _≤_}
 use lib.ListN.{length, take, drop, length-append, length-take, length-drop}
 use Rattle.table6.specs.Stored.{wordAt}
 use Rattle.link.specs.declared.Said.{Said}
@@ -16,7 +16,7 @@ use Rattle.octet.specs.Octets.{at, over, putAt}
 use Rattle.octet.proofs.Over.{lent, length-put}
 use Rattle.event.specs.Frame.{linkAt, messageOf}
 use Rattle.signal.specs.declared.Run.{Run}
-use Rattle.signal.specs.SignalRecord.{bodyOf, signalOctets, joined}
+use Rattle.signal.specs.SignalRecord.{signalOctets, joined}
 use Rattle.signal.specs.Writing.{frontOf, known, Ran, Halts}
 use Rattle.signal.proofs.SignalRecord.{signal-length}
 use Rattle.signal.proofs.Runs.{known-length, three, spoken, split, room, behind-brings, at-end}

@@ -1,7 +1,7 @@
 -- `signal::put_known` meets its contract. Assumes nothing.
 use borrow.Author.Needs.{needs}
 use mathlib.Core.Path.{_∙_}
-use Rattle.octet.specs.Octets.{over, putAt}
+use Rattle.octet.specs.Octets.{putAt}
 use Rattle.octet.proofs.Over.{behind}
 use Rattle.signal.specs.Writing.{fixedAt}
 use Rattle.signal.proofs.put_known.Statement.{statement}

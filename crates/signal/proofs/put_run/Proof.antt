@@ -4,9 +4,8 @@ use borrow.Author.Tests.{ltb-true, ltb-false}
 use native.Mathlib.Omega.{arith}
 use mathlib.Core.Path.{_≡_, refl, sym, ap, _∙_}
 use mathlib.Core.Logic.{inl, inr}
-use Prim.Native.Nat.{ℕ, _+_, _*_, _%_, _≤_}
+use Prim.Native.Nat.{_+_, _*_, _%_, _≤_}
 use lib.ListN.{length, length-take, length-drop}
-use Rattle.signal.specs.declared.Run.{Run}
 use Rattle.signal.specs.Writing.{known, Ran}
 use Rattle.octet.proofs.Over.{put-nothing, length-put}
 use Rattle.signal.proofs.Runs.{known-length, none-yet, turn}
