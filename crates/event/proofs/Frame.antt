@@ -1,12 +1,12 @@
 -- The twelve octets of an event's or a signal's record, there and back, whatever the mark. Assumes nothing.
-use Prim.Native.Nat.{ℕ, zero, suc, _+_, _/_, _%_, _≤_, _<_}
+use Prim.Native.Nat.{ℕ, zero, suc, _+_, _-_, _/_, _%_, _≤_, _<_}
 use native.Mathlib.Omega.{arith}
 use mathlib.Core.Path.{_≡_, refl, sym, ap, _∙_}
-use mathlib.Core.Bool.{Bool, true, false, _&&_}
+use mathlib.Core.Bool.{Bool, true, false, _&&_, and-true, and-false, true-and}
 use mathlib.Core.List.{List, [], _∷_}
 use lib.Dec.{eqb, leb, ltb}
 use lib.ListN.{length, drop, length-drop}
-use borrow.Author.Tests.{leb-true, leb-false, eqb-true, le-leb, lt-leb, lt-ltb, le-ltb, eq-eqb}
+use borrow.Author.Tests.{leb-true, leb-false, eqb-true, eqb-false, le-leb, lt-leb, lt-ltb, le-ltb, eq-eqb, ne-eqb}
 use Rattle.table6.proofs.Every.{left, right}
 use Rattle.link.specs.declared.Num.{Num}
 use Rattle.octet.specs.Octets.{Octets, at, two}
@@ -43,6 +43,28 @@ sound mark r f =
       few = leb-true (lengthAt r) 4096 (right (b && c && d) g w4);
       follows = eqb-true (12 + lengthAt r) (length r) (right (b && c && d && g) h w5);
     }
+
+-- All of it but the length, of a record that is neither too short nor too long: then its length has to be that of what follows.
+pub framed-by : (mark r : List ℕ) → 12 ≤ length r → length r ≤ 4108 →
+    framedAs mark r ≡ eqb (lengthAt r) (length r - 12) && (eqb (at r 0) (at mark 0) && eqb (at r 1) (at mark 1)) && eqb (at r 9) 0
+unfolding framedAs
+framed-by mark r low high = by (eqb (lengthAt r) (length r - 12)) refl where
+  by : (b : Bool) → eqb (lengthAt r) (length r - 12) ≡ b →
+      leb 12 (length r) && (eqb (at r 0) (at mark 0) && eqb (at r 1) (at mark 1) && eqb (at r 9) 0 && leb (lengthAt r) 4096 && eqb (12 + lengthAt r) (length r))
+      ≡ b && (eqb (at r 0) (at mark 0) && eqb (at r 1) (at mark 1)) && eqb (at r 9) 0
+  by true e =
+      let n = eqb-true (lengthAt r) (length r - 12) e in
+      rw (le-leb 12 (length r) low, le-leb (lengthAt r) 4096 (omega arith), eq-eqb (12 + lengthAt r) (length r) (omega arith)) (simp (and-true, true-and))
+  by false e =
+      let n = eqb-false (lengthAt r) (length r - 12) e in
+      rw (ne-eqb (12 + lengthAt r) (length r) (λ h. n (omega arith))) (simp and-false)
+
+-- one that is too long is not sound
+pub too-long : (mark r : List ℕ) → 4108 < length r → framedAs mark r ≡ false
+too-long mark r h = by (framedAs mark r) refl where
+  by : (b : Bool) → framedAs mark r ≡ b → b ≡ false
+  by true f = absurd (omega (arith, sound mark r f .few, sound mark r f .follows))
+  by false f = refl
 
 -- the message is as long as its length says
 pub message-length : (mark r : List ℕ) → framedAs mark r ≡ true → length (messageOf r) ≡ lengthAt r

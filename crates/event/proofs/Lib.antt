@@ -1,3 +1,4 @@
 pub mod EventRecord
+pub mod EndToEnd
 pub mod Frame
 pub mod OneAnswer

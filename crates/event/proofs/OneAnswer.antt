@@ -5,6 +5,8 @@ use denote.Ref.{now}
 use Rattle.unit.specs.OneAnswer.{OneReading, OneAnswer}
 use Rattle.unit.proofs.OneAnswer.{equal}
 use Rattle.event.proofs.EventRecord.{one-reading}
+use Rattle.event.proofs.front.Kinds as front-kinds
+use Rattle.event.proofs.front.Reads as front
 use Rattle.event.proofs.message.Kinds as message-kinds
 use Rattle.event.proofs.message.Reads as message
 use Rattle.event.proofs.event.Kinds as event-kinds
@@ -13,6 +15,9 @@ use Rattle.event.proofs.link.Kinds as link-kinds
 use Rattle.event.proofs.link.Reads as link
 use Rattle.event.proofs.read_event.Kinds as read-event-kinds
 use Rattle.event.proofs.read_event.Reads as read-event
+
+pub front-one : OneAnswer front-kinds.ps front-kinds.r front.Post
+front-one κs arguments x y e f = equal
 
 -- of a part of the caller's octets, what it holds
 pub message-one : OneReading message-kinds.ps message-kinds.r (List ℕ) (λ κs arguments x e. now x) message.Post

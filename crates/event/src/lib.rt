@@ -7,11 +7,12 @@ use octet::wide;
 use table6::events;
 use unit::Field;
 ghost use mathlib.Core.Path.{_≡_};
-ghost use mathlib.Core.Bool.{not, _||_};
+ghost use mathlib.Core.Bool.{cond, not, _||_};
 ghost use Prim.Native.Nat.{_+_, _≤_};
 ghost use lib.Dec.{eqb, leb};
 ghost use lib.ListN.{length};
 ghost use Rattle.event.specs.Frame.{headOctets, linkAt, paramAt, numberAt, lengthAt, messageOf};
+ghost use Rattle.event.specs.EndToEnd.{sound};
 ghost use Rattle.event.specs.EventRecord.{framed, eventOf, isStatus, isZero, reading, fitting, fieldsOf, readingOf};
 
 // The octets of a record before its message, and the most of a message.
@@ -19,19 +20,38 @@ pub const HEAD: usize = 12;
 
 pub const MESSAGE: u16 = 4096;
 
+// The octets of the longest record.
+const LONGEST: usize = 4108;
+
 // The mark of an event.
 const EV: [u8; 2] = *b"EV";
 
-// At least twelve octets, the mark, octet 9 zero, and a length, at most 4,096, that is that of what follows. It is left at the first that fails, and the length comes
-// before the mark (D63).
+// At least twelve octets, the mark, octet 9 zero, and a length, at most 4,096, that is that of what follows. It is left at the first that fails (D63).
 fn framed(e: &[u8]) -> bool
     ensures { λ r. ⌜ r ≡ framed (now (e .entry)) ⌝ }
 {
-    if e.len() < HEAD {
+    if (e.len() < HEAD) | (LONGEST < e.len()) {
         return false;
     }
-    let len = wide(e[10], e[11]);
-    (len <= MESSAGE) && marked(e, &EV) && (e[9] == 0) && (HEAD + len as usize == e.len())
+    let len = (e.len() - HEAD) as u16;
+    (wide(e[10], e[11]) == len) && marked(e, &EV) && (e[9] == 0)
+}
+
+// Of events end to end: the octets of the one at the front, by its own length, and 0 if its frame is broken.
+pub fn front(es: &[u8]) -> usize
+    ensures { λ r. ⌜ r ≡ cond (sound (now (es .entry))) (headOctets + lengthAt (now (es .entry))) 0 ⌝ }
+{
+    if es.len() < HEAD {
+        return 0;
+    }
+    let end = HEAD + wide(es[10], es[11]) as usize;
+    if es.len() < end {
+        return 0;
+    }
+    if framed(&es[..end]) {
+        return end;
+    }
+    0
 }
 
 // The message, a part of the caller's own octets.

@@ -1,4 +1,4 @@
--- Document 01's numbers of the refusals, by what is refused.
+-- The numbers of the refusals, by what is refused: document 01's, and document 02's 13.
 use Prim.Native.Nat.{ℕ}
 
 abbrev pub REFUSED-TABLE : ℕ
@@ -27,3 +27,6 @@ REFUSED-STATE = 8
 
 abbrev pub REFUSED-OUTPUT : ℕ
 REFUSED-OUTPUT = 9
+
+abbrev pub REFUSED-LIST : ℕ
+REFUSED-LIST = 13

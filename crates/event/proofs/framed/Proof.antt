@@ -1,88 +1,92 @@
 -- `event::framed` meets its contract: each `&&` goes on to its second test where its first holds. Assumes nothing.
 use borrow.Author.Needs.{needs}
-use borrow.Author.Tests.{le-leb, lt-leb}
+use borrow.Author.Tests.{ltb-true, ltb-false, eq-eqb, ne-eqb, lt-leb}
+use native.Mathlib.Omega.{arith}
 use mathlib.Core.Path.{_≡_, refl, sym, ap, _∙_}
-use mathlib.Core.Bool.{Bool, true, false, _&&_, and-true, and-false}
-use mathlib.Core.Logic.{⊎-elim}
-use Prim.Native.Nat.{_+_}
-use lib.Dec.{eqb, leb}
+use mathlib.Core.Bool.{false, _&&_}
+use mathlib.Core.List.{List}
+use mathlib.Core.Logic.{_⊎_, ⊎-elim}
+use Prim.Native.Nat.{ℕ, _-_, _≤_, _<_}
+use lib.Dec.{eqb, ltb}
 use lib.ListN.{length}
 use Rattle.octet.specs.Octets.{at}
-use Rattle.octet.proofs.Branches.{on, off}
+use Rattle.octet.proofs.Branches.{on, off, neither, either}
 use Rattle.event.specs.Frame.{EV, lengthAt, framedAs}
+use Rattle.event.proofs.Frame.{framed-by, too-long}
 use Rattle.event.proofs.framed.Statement.{statement}
 use Rattle.event.proofs.framed.Tie as tie
 
--- the test of the length may come before that of the mark
-length-later : (l a b z t : Bool) → l && (a && b) && z && t ≡ a && b && z && l && t
-length-later true a b z t = simp and-true
-length-later false a b z t = simp and-false
+too-short : (e : List ℕ) → length e < 12 → framedAs EV e ≡ false
+unfolding framedAs
+too-short e h = simp (lt-leb 12 (length e) h)
 
-and2 : (j : tie.Joined2) → let e = j .before .before .before .before .before .before .args .e .now in j .if2 .if3 ≡ (leb (lengthAt e) 4096 && (eqb (at e 0) (at EV 0) && eqb (at e 1) (at EV 1)))
+-- past the first test
+bounds : (c : tie.Else1) → let e = c .before .before .args .e .now in (12 ≤ length e) × (length e ≤ 4108)
+bounds c =
+    let e = c .before .before .args .e .now in
+    let n = neither (ltb (length e) 12) (ltb 4108 (length e)) (c .if1 .left) in
+    (ltb-false (length e) 12 (n .0), ltb-false 4108 (length e) (n .1))
+
+and2 : (j : tie.Joined2) → let e = j .before .before .before .before .before .before .args .e .now in j .if2 .if3 ≡ (eqb (lengthAt e) (length e - 12) && (eqb (at e 0) (at EV 0) && eqb (at e 1) (at EV 1)))
 and2 j =
     let e = j .before .before .before .before .before .before .args .e .now in
     let m = eqb (at e 0) (at EV 0) && eqb (at e 1) (at EV 1) in
-    let w = ap (λ n. leb n 4096) (j .before .wide .ensures) in
-    ⊎-elim {C = j .if2 .if3 ≡ (leb (lengthAt e) 4096 && m)} (λ x. on (sym w ∙ le-leb _ _ (x .0 .taken)) (x .3 ∙ x .2 .ensures)) (λ y. off m (sym w ∙ lt-leb _ _ (y .0 .left)) (y .1 ∙ w)) (j .if2 .came)
+    let w = j .before .wide .ensures in
+    ⊎-elim {C = j .if2 .if3 ≡ (eqb (lengthAt e) (length e - 12) && m)} (λ x. on (eq-eqb _ _ (sym w ∙ x .0 .taken)) (x .3 ∙ x .2 .ensures))
+    (λ y. off m (ne-eqb _ _ (λ h. y .0 .left (w ∙ h))) (y .1 ∙ ap (λ n. eqb n (length e - 12)) w)) (j .if2 .came)
 
-and3 : (j : tie.Joined3) → let e = j .before .before .before .before .before .before .before .args .e .now in j .if3 .if4 ≡ (j .before .if2 .if3 && eqb (at e 9) 0)
-and3 j =
-    let e = j .before .before .before .before .before .before .before .args .e .now in
-    ⊎-elim {C = j .if3 .if4 ≡ (j .before .if2 .if3 && eqb (at e 9) 0)} (λ x. on (x .0 .taken) (x .2)) (λ y. off (eqb (at e 9) 0) (y .0 .left) (y .1)) (j .if3 .came)
-
--- the tests before the last, and all of them
-most : (j : tie.Joined3) → let e = j .before .before .before .before .before .before .before .args .e .now in (j .if3 .if4 && eqb (12 + lengthAt e) (length e)) ≡ framedAs EV e
-unfolding framedAs
-most j =
-    let e = j .before .before .before .before .before .before .before .args .e .now in
-    rw (and3 j, and2 (j .before))
-    (length-later (leb (lengthAt e) 4096) (eqb (at e 0) (at EV 0)) (eqb (at e 1) (at EV 1)) (eqb (at e 9) 0) (eqb (12 + lengthAt e) (length e))
-    ∙ simp (le-leb _ _ (j .before .before .before .before .before .if1 .left)))
+-- all tests but the last, and it
+whole : (j : tie.Joined2) → let e = j .before .before .before .before .before .before .args .e .now in (j .if2 .if3 && eqb (at e 9) 0) ≡ framedAs EV e
+whole j =
+    let e = j .before .before .before .before .before .before .args .e .now in
+    let b = bounds (j .before .before .before .before) in
+    ap (λ x. x && eqb (at e 9) 0) (and2 j) ∙ sym (framed-by EV e (b .0) (b .1))
 
 returns : tie.Need-returns
-unfolding framedAs
-returns c = simp (lt-leb _ _ (c .if1 .taken))
+returns c =
+    let e = c .before .before .args .e .now in
+    sym (⊎-elim {C = framedAs EV e ≡ false} (λ x. too-short e (ltb-true (length e) 12 x)) (λ y. too-long EV e (ltb-true 4108 (length e) y)) (either (ltb (length e) 12) (ltb 4108 (length e)) (c .if1 .taken)))
+
+sub-len : tie.Need-sub-len
+sub-len c = bounds c .0
+
+cast-len : tie.Need-cast-len
+cast-len c = omega (arith, bounds c .1)
 
 shared-slice-read-wide : tie.Need-shared-slice-read-wide
-shared-slice-read-wide c = search needs
+shared-slice-read-wide c = omega (arith, bounds (c .before) .0)
 
 shared-slice-read-wide-2 : tie.Need-shared-slice-read-wide-2
-shared-slice-read-wide-2 c = search needs
+shared-slice-read-wide-2 c = omega (arith, bounds (c .before .before) .0)
 
 wide-requires : tie.Need-wide-requires
 wide-requires c κs = search needs
 
 marked-requires : tie.Need-marked-requires
-marked-requires c κs = search needs
+marked-requires c κs = (omega (arith, bounds (c .before .before .before .before .before) .0), omega arith)
 
-shared-slice-read-if4 : tie.Need-shared-slice-read-if4
-shared-slice-read-if4 c = search needs
-
-cast-result : tie.Need-cast-result
-cast-result c = search needs
-
-add-result : tie.Need-add-result
-add-result c = search needs
+shared-slice-read-result : tie.Need-shared-slice-read-result
+shared-slice-read-result c = omega (arith, bounds (c .before .before .before .before .before .before) .0)
 
 returns-2 : tie.Need-returns-2
-returns-2 c = on (c .if4 .taken) (rw (c .before .before .before .wide .ensures) refl) ∙ most (c .before)
+returns-2 c = on (c .before .if3 .taken) refl ∙ whole (c .before .before)
 
 returns-3 : tie.Need-returns-3
 returns-3 c =
-    let e = c .before .before .before .before .before .before .before .before .args .e .now in
-    off (eqb (12 + lengthAt e) (length e)) (c .if4 .left) refl ∙ most (c .before)
+    let e = c .before .before .before .before .before .before .before .args .e .now in
+    off (eqb (at e 9) 0) (c .if3 .left) refl ∙ whole (c .before)
 
 pub framed-spec : {M : Type 1} → statement M
 framed-spec =
     tie.close
     (tie.spec
     returns
+    sub-len
+    cast-len
     shared-slice-read-wide
     shared-slice-read-wide-2
     wide-requires
     marked-requires
-    shared-slice-read-if4
-    cast-result
-    add-result
+    shared-slice-read-result
     returns-2
     returns-3)
