@@ -41,8 +41,8 @@ use Rattle.record.proofs.LinkRecord.{unpacked}
 use Rattle.event.specs.Frame.{written, linkAt, codeAt, paramAt, numberAt, lengthAt, messageOf}
 use Rattle.event.specs.EventRecord.{codedAt, said, eventOf, misfit}
 use Rattle.signal.specs.SignalRecord.{signalOctets}
-use Rattle.sscf.specs.Step.{recordAt, stepCall}
-use Rattle.sscf.proofs.Untouched.{accepted-written}
+use Rattle.step.specs.Step.{recordAt, stepCall}
+use Rattle.step.proofs.Untouched.{accepted-written}
 use Rattle.history.specs.Calls.{World}
 use Rattle.history.specs.History.{Mark, accepted, eventMark, signalMark, with-signals, history, none}
 use Rattle.history.specs.Pics.{_⇒_, linkIn, plain}

@@ -4,7 +4,7 @@ use mathlib.Core.Bool.{Bool, true, false, cond}
 use mathlib.Core.List.{List, [], _∷_, map}
 use Prim.Native.Nat.{ℕ, _*_, _/_, _≤_, _<_}
 use native.Mathlib.Omega.{arith}
-use lib.Dec.{eqb}
+use lib.Dec.{eqb, ltb}
 use lib.ListN.{length}
 use borrow.Author.Tests.{eqb-true, eqb-false}
 use Rattle.link.specs.declared.Link.{Link}
@@ -17,19 +17,42 @@ use Rattle.event.specs.EventRecord.{framed, codedIn, eventOf, misfit}
 use Rattle.signal.specs.SignalRecord.{signalOctets, joined}
 use Rattle.record.proofs.LinkRecord.{unpacked, octets-length}
 use Rattle.signal.proofs.SignalRecord.{signals-apart}
-use Rattle.sscf.specs.declared.checks.Refusal.{Refusal}
+use Rattle.step.specs.declared.Refusal.{Refusal}
 use Rattle.unit.specs.Checks.{Verdict, passed, refused, first}
-use Rattle.sscf.specs.Step.{records, recordAt, linkFor, unknown, checks, Outcome, stepCall}
+use Rattle.step.specs.Step.{records, recordAt, linkFor, unknown, checks, Outcome, stepCall}
 use Rattle.sscf.specs.Fresh as maker
 use Rattle.sscf.specs.Fresh.{freshChecks, freshCall}
-use Rattle.sscf.specs.Untouched.{Written}
+use Rattle.step.specs.Untouched.{Written}
 use Rattle.unit.proofs.Checks.{clear}
-use Rattle.sscf.proofs.Taken.{taken}
-use Rattle.sscf.proofs.Untouched.{either-way, number-above, refusals-untouched, same-lengths, others-untouched, accepted-written}
+use Rattle.step.proofs.Taken.{taken}
+use Rattle.step.proofs.Untouched.{either-way, number-above, refusals-untouched, same-lengths, others-untouched, accepted-written}
 use Rattle.sscf.proofs.Copies.{length-copies}
 use Rattle.sscf.proofs.AllFresh.{all-fresh}
-use Rattle.history.specs.Calls.{Call, fresh, step, Seen, cut, signalsIn, World, made, next, run, AfterEachCall}
+use Rattle.event.specs.EndToEnd.{frames}
+use Rattle.sscf.specs.Burst as calls
+use Rattle.sscf.specs.Burst.{left, Single, singly, burstChecks, singles}
+use Rattle.history.specs.Calls.{Call, fresh, step, burst, Seen, cut, signalsIn, World, made, stepped, each, next, run, AfterEachCall}
 use Rattle.history.specs.History.{Mark, with-signals, eventMark, marks, history}
+
+-- WHAT EACH STEP KEEPS a burst keeps, which is read as its single calls
+module _ (P : World → Type 0) (k : (w : World) (e o : List ℕ) → P w → P (stepped w e (stepCall (w .table) e o))) where
+  by-room : (w : World) (s : Single) (others : List Single) (b : Bool) → P w → P (each w (s ∷ others)) → P (each w (cond b [] (s ∷ others)))
+  by-room w s others true p q = p
+  by-room w s others false p q = q
+
+  each-keeps : (fs : List (List ℕ)) (w : World) (o : List ℕ) → P w → P (each w (singly fs (w .table) o))
+  each-keeps [] w o p = p
+  each-keeps (e ∷ fs) w o p =
+      let c = stepCall (w .table) e o in
+      by-room w (record { event = e; after = c }) (singly fs (c .table) (left c)) (ltb (length o) 4192) p (each-keeps fs (stepped w e c) (left c) (k w e o p))
+
+  by-verdict : (w : World) (es o : List ℕ) (d : Verdict Refusal) → P w → P (each w (calls.made d (w .table) es o))
+  by-verdict w es o (refused x) p = p
+  by-verdict w es o passed p = each-keeps (frames es) w o p
+
+  pub burst-keeps : (w : World) (es o l : List ℕ) → P w → P (next w (burst es o l))
+  unfolding next singles
+  burst-keeps w es o l = by-verdict w es o (first (burstChecks (w .table) es l))
 
 -- WHAT THE OUTPUT HOLDS: the records of the signals, one by one
 cut-joined : (k : ℕ) (m : List ℕ) (ss : List Signal) → cut (length ss) (joined k m ss) ≡ map (signalOctets k m) ss
@@ -135,6 +158,7 @@ module _ (I : ℕ → Link → List Mark → Type 0) (v : Invariant I) where
   unfolding next
   next-good w g (fresh buffer n1) = fresh-good w g buffer n1 (eqb (freshCall buffer n1 .answer) 0) refl
   next-good w g (step e o) = step-good I v w g e o (eqb (stepCall (w .table) e o .answer .refusal) 0) refl
+  next-good w g (burst es o l) = burst-keeps (Good I) (λ w e o g. step-good I v w g e o (eqb (stepCall (w .table) e o .answer .refusal) 0) refl) w es o l g
 
   run-good : (calls : List Call) (w : World) → Good I w → Good I (run w calls)
   unfolding run

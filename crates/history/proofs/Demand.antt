@@ -8,7 +8,7 @@ use native.Mathlib.Omega.{arith}
 use lib.Dec.{eqb}
 use borrow.Author.Tests.{eq-eqb}
 use Rattle.table6.specs.declared.State.{State}
-use Rattle.sscf.proofs.Untouched.{others-untouched}
+use Rattle.step.proofs.Untouched.{others-untouched}
 use Rattle.history.specs.History.{Mark, Stands, Served, history}
 use Rattle.history.specs.Tests.{stands, sent, due, served}
 use Rattle.history.specs.Demand.{Demand3}

@@ -16,7 +16,7 @@ use Rattle.link.specs.Stored.{dataRowOf, viewOf}
 use Rattle.event.specs.Frame.{EV, codeAt, paramAt, numberAt, lengthAt, messageOf}
 use Rattle.event.specs.EventRecord.{carried, events, Coded, among, codedAt, codedIn, said, eventOf, misfit, Each}
 use Rattle.event.proofs.Frame.{message-length}
-use Rattle.sscf.specs.Step.{unknown}
+use Rattle.step.specs.Step.{unknown}
 use Rattle.history.proofs.Walk.{Kind, Of}
 use Rattle.history.proofs.Table.{Sort, plain, sortAt}
 use Rattle.history.proofs.Calls.{Passed}

@@ -12,3 +12,4 @@ pub mod Timers
 pub mod Pics
 pub mod Latest
 pub mod Bsnt
+pub mod Bursts

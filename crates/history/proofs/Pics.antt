@@ -42,19 +42,19 @@ use Rattle.event.specs.Frame.{EV, written, linkAt, codeAt, messageOf}
 use Rattle.event.specs.EventRecord.{Coded, codedAt, eventOf, misfit}
 use Rattle.event.proofs.Frame.{two-back, frame-reread}
 use Rattle.signal.specs.SignalRecord.{signalOctets}
-use Rattle.sscf.specs.declared.checks.Refusal.{Refusal}
+use Rattle.step.specs.declared.Refusal.{Refusal}
 use Rattle.unit.specs.Checks as checks
-use Rattle.sscf.specs.Step as call
-use Rattle.sscf.specs.Step.{badTable, records, recordAt, linkFor, idle, isIllegal, stepCall}
+use Rattle.step.specs.Step as call
+use Rattle.step.specs.Step.{badTable, records, recordAt, linkFor, idle, isIllegal, stepCall}
 use Rattle.sscf.specs.Fresh as maker
 use Rattle.sscf.specs.Fresh.{freshChecks, freshCall}
-use Rattle.sscf.specs.Untouched.{Written}
+use Rattle.step.specs.Untouched.{Written}
 use Rattle.unit.proofs.Checks as verdict
-use Rattle.sscf.proofs.Places as places
-use Rattle.sscf.proofs.Taken.{Makes, step-accepted}
-use Rattle.sscf.proofs.Untouched.{number-above, refusals-untouched, same-lengths, stays-well-formed, accepted-written}
+use Rattle.step.proofs.Places as places
+use Rattle.step.proofs.Taken.{Makes, step-accepted}
+use Rattle.step.proofs.Untouched.{number-above, refusals-untouched, same-lengths, stays-well-formed, accepted-written}
 use Rattle.sscf.proofs.AllFresh.{fresh-well-formed}
-use Rattle.history.specs.Calls.{Call, fresh, step, signalsIn, World, made, next, run, AfterEachCall}
+use Rattle.history.specs.Calls.{Call, fresh, step, burst, signalsIn, World, made, stepped, next, run, AfterEachCall}
 use Rattle.history.specs.Pics.{Turn, _⇒_, Happens, linkIn, Leads, plain, asking, from-peer, coded, Source, sourced, released, message, arriving, report-uu, reported}
 use Rattle.history.specs.Pics.{request, response, units, readies, completes, joins, notes, later, sooner, Brings, Serves, starts, answers, confirms, fails, SNPC1, SNPC2}
 use Rattle.history.specs.Pics.{SNPC3, SNPC4, SNPC5, stops, SNPC6, toUser, toSSCOP, toManagement, toTimers, oneOf, every, SNPC6-1, SNPC7, SNPC8}
@@ -64,7 +64,7 @@ use Rattle.history.specs.Tests.{alive}
 use Rattle.history.proofs.Tested.{alive-there}
 use Rattle.history.proofs.Table.{now}
 use Rattle.history.proofs.Step.{NowIs, Inv, keeps-inv}
-use Rattle.history.proofs.Calls.{emitted-ones, made-length, Passed, Kept, after-each-call}
+use Rattle.history.proofs.Calls.{burst-keeps, emitted-ones, made-length, Passed, Kept, after-each-call}
 use Rattle.history.proofs.Events.{long-message}
 use Rattle.history.proofs.Timers.{timed-each}
 
@@ -148,15 +148,19 @@ made-sound buffer n1 h =
     let n : length (freshCall buffer n1 .table) ≡ length buffer = omega (arith, made-length buffer n1 h, places.whole buffer g) in
     (rw n g, λ k i. fresh-well-formed buffer n1 k h (omega (arith, n)))
 
+step-sound : (w : World) (e o : List ℕ) → Sound w → Sound (stepped w e (stepCall (w .table) e o))
+step-sound w e o s =
+    let n = same-lengths (w .table) e o .0 in
+    (rw n (s .0), λ k i. stays-well-formed (w .table) e o k (s .1 k (omega (arith, n))))
+
 next-sound : (w : World) (c : Call) → Sound w → Sound (next w c)
 unfolding next
 next-sound w (fresh buffer n1) s = by (eqb (freshCall buffer n1 .answer) 0) refl where
   by : (b : Bool) → eqb (freshCall buffer n1 .answer) 0 ≡ b → Sound (cond b (made buffer n1) w)
   by true p = made-sound buffer n1 (eqb-true (freshCall buffer n1 .answer) 0 p)
   by false p = s
-next-sound w (step e o) s =
-    let n = same-lengths (w .table) e o .0 in
-    (rw n (s .0), λ k i. stays-well-formed (w .table) e o k (s .1 k (omega (arith, n))))
+next-sound w (step e o) s = step-sound w e o s
+next-sound w (burst es o l) s = burst-keeps Sound step-sound w es o l s
 
 run-sound : (calls : List Call) (w : World) → Sound w → Sound (run w calls)
 unfolding run

@@ -13,7 +13,7 @@ use Rattle.table6.specs.declared.State.{State}
 use Rattle.table6.proofs.Every.{left, right}
 use Rattle.octet.specs.Octets.{at}
 use Rattle.record.specs.LinkRecord.{stateCode, octetsOf}
-use Rattle.sscf.specs.Step.{recordAt}
+use Rattle.step.specs.Step.{recordAt}
 use Rattle.history.specs.History.{Mark, edge, provingSent, inService, Somewhere, count, Stands, Connection, since, begun, mps, ups, field, decided, Served, history}
 use Rattle.history.specs.Tests.{from, alive, sent, due, toldIns, heardIns, served}
 use Rattle.history.specs.Register.{StateOctet, NotEarly, ForcedProving, ForcedEmergency}

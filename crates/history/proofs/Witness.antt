@@ -8,8 +8,10 @@ use Rattle.octet.specs.Octets.{over, putAt}
 use Rattle.record.specs.LinkRecord.{octetsOf, linkOf, wellFormed}
 use Rattle.event.specs.Frame.{written, framedAs}
 use Rattle.event.specs.EventRecord.{codedAt, misfit}
+use Rattle.event.specs.EndToEnd.{frames}
 use Rattle.signal.specs.SignalRecord.{joined}
-use Rattle.sscf.specs.Step.{stepCall}
+use Rattle.step.specs.Step.{stepCall}
+use Rattle.sscf.specs.Burst.{singles}
 use Rattle.sscf.specs.Fresh.{freshCall}
 use Rattle.history.specs.Calls.{next, run}
 use Rattle.history.specs.History.{marks}
@@ -19,7 +21,7 @@ use Rattle.history.specs.BsntWitness.{BsntWitness}
 
 pub witness : Witness
 unfolding unitOf kind arrived decoded asked table7 table8 every-row stepOf over putAt octetsOf linkOf wellFormed written framedAs
-    codedAt misfit joined stepCall freshCall next run marks stands alive sent due toldIns heardIns
+    codedAt misfit joined frames stepCall singles freshCall next run marks stands alive sent due toldIns heardIns
 witness =
     record {
       begins = refl;
@@ -38,6 +40,9 @@ witness =
       refused = refl;
       anew = refl;
       of-another = refl;
+      as-burst = record { accepted = refl; service = refl; condition = refl };
+      past-refused = record { accepted = refl; service = refl; condition = refl };
+      up-to-broken = record { accepted = refl; service = refl; condition = refl };
     }
 
 pub bsnt-witness : BsntWitness

@@ -16,7 +16,7 @@ use Rattle.link.specs.Signal as link
 use Rattle.link.specs.Signal.{bare}
 use Rattle.event.specs.Frame.{linkAt, codeAt}
 use Rattle.signal.specs.SignalRecord.{signalOctets}
-use Rattle.sscf.specs.Step.{recordAt, stepCall}
+use Rattle.step.specs.Step.{recordAt, stepCall}
 use Rattle.history.specs.Calls.{signalsIn, World, AfterEachCall}
 use Rattle.history.specs.History.{Mark, accepted, emitted, event, comesUp, Somewhere, none, history}
 use Rattle.history.specs.Pics.{_⇒_, linkIn, Brings, plain}

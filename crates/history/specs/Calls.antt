@@ -1,18 +1,21 @@
--- Any sequence of the two calls, and what the host saw of each that was accepted. All of it is octets, given to the calls and got from them.
-use Prim.Native.Nat.{ℕ, zero, suc, _+_, _<_}
+-- Any sequence of the three calls, and what the host saw of each that was accepted. All of it is octets, given to the calls and got from them.
+use Prim.Native.Nat.{ℕ, zero, suc, _<_}
 use mathlib.Core.Path.{_≡_}
 use mathlib.Core.Bool.{cond}
 use mathlib.Core.List.{List, [], _∷_}
 use lib.Dec.{eqb}
-use lib.ListN.{take, drop}
-use Rattle.event.specs.Frame.{headOctets, lengthAt}
-use Rattle.sscf.specs.Step.{records, Outcome, stepCall}
+use lib.ListN.{take}
+use Rattle.event.specs.EndToEnd.{front, behind}
+use Rattle.step.specs.Step.{records, Outcome, stepCall}
+use Rattle.sscf.specs.Burst.{Single, singles}
 use Rattle.sscf.specs.Fresh.{freshCall}
 
--- A call: a table made anew in a buffer, or a step on the table that there is, "lent as a table and never as room for other output". Any octets, of any length.
+-- A call: a table made anew in a buffer, or a step or a burst on the table that there is, "lent as a table and never as room for other output". Any octets, of any
+-- length.
 pub data Call : Type 0 where
   fresh : (buffer : List ℕ) (n1 : ℕ) → Call
   step : (event output : List ℕ) → Call
+  burst : (events output list : List ℕ) → Call
 
 -- What the host saw of an accepted step: the event that it gave, and the signal records that it got.
 pub record Seen : Type 0 where
@@ -22,7 +25,7 @@ pub record Seen : Type 0 where
 -- Of records that stand one behind the other the first n, each as long as its own length says.
 abbrev pub cut : ℕ → List ℕ → List (List ℕ)
 cut zero octets = []
-cut (suc n) octets = take (headOctets + lengthAt octets) octets ∷ cut n (drop (headOctets + lengthAt octets) octets)
+cut (suc n) octets = front octets ∷ cut n (behind octets)
 
 -- The signals of a step: as many records as it answered, in the octets of the output that it answered.
 abbrev pub signalsIn : Outcome → List (List ℕ)
@@ -47,10 +50,16 @@ stepped w e after =
       seen = cond (eqb (after .answer .refusal) 0) (record { event = e; signals = signalsIn after } ∷ w .seen) (w .seen);
     }
 
+-- "Demand 3 reads a burst as its single calls."
+abbrev pub each : World → List Single → World
+each w [] = w
+each w (s ∷ others) = each (stepped w (s .event) (s .after)) others
+
 -- One call. A table that was made takes the place of the one that there is; where none was made, that one is as it was.
 unfoldable pub next : World → Call → World
 next w (fresh buffer n1) = cond (eqb (freshCall buffer n1 .answer) 0) (made buffer n1) w
 next w (step e o) = stepped w e (stepCall (w .table) e o)
+next w (burst es o l) = each w (singles (w .table) es o l)
 
 unfoldable pub run : World → List Call → World
 run w [] = w

@@ -1,6 +1,6 @@
 -- Demand 3. What it is stated over: Calls.antt, the calls and what was seen of them; History.antt, a definition for each of its phrases.
 use mathlib.Core.Logic.{_↔_}
-use Rattle.sscf.specs.Untouched.{OthersUntouched}
+use Rattle.step.specs.Untouched.{OthersUntouched}
 use Rattle.history.specs.Calls.{AfterEachCall}
 use Rattle.history.specs.History.{history, Stands, Served}
 

@@ -1,4 +1,5 @@
 pub mod Calls
+pub mod Bursts
 pub mod History
 pub mod Demand
 pub mod Register

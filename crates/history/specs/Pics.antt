@@ -28,7 +28,7 @@ use Rattle.link.specs.Twelve.{release, unit, report}
 use Rattle.record.specs.LinkRecord.{linkOf}
 use Rattle.event.specs.Frame.{messageOctets, EV, written, linkAt, codeAt, messageOf}
 use Rattle.signal.specs.SignalRecord.{signalOctets}
-use Rattle.sscf.specs.Step.{recordAt, outputOctets, stepCall}
+use Rattle.step.specs.Step.{recordAt, outputOctets, stepCall}
 use Rattle.history.specs.Calls.{step, signalsIn, World, next, AfterEachCall}
 use Rattle.history.specs.History.{history, Connection}
 

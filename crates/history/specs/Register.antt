@@ -6,7 +6,7 @@ use Rattle.unit.specs.declared.Mps.{Mps}
 use Rattle.table6.specs.Words.{3/10/5}
 use Rattle.octet.specs.Octets.{at}
 use Rattle.record.specs.LinkRecord.{stateCode}
-use Rattle.sscf.specs.Step.{recordAt}
+use Rattle.step.specs.Step.{recordAt}
 use Rattle.history.specs.Calls.{AfterEachCall}
 use Rattle.history.specs.History.{history, provingSent, inService, Somewhere, count, Stands, Connection, since, begun, mps, Served}
 

@@ -1,6 +1,6 @@
--- Histories that the checker computes, on octets and through both calls, so that nobody has to wonder whether the demand is empty: three in which a link
+-- Histories that the checker computes, on octets and through the calls, so that nobody has to wonder whether the demand is empty: three in which a link
 -- comes into service, and for each condition of the demand one or more in which it fails and the link does not stand in service.
-use Prim.Native.Nat.{ℕ}
+use Prim.Native.Nat.{ℕ, _+_}
 use mathlib.Core.Path.{_≡_}
 use mathlib.Core.Bool.{Bool, true, false}
 use mathlib.Core.List.{List, [], _∷_, _++_}
@@ -11,9 +11,9 @@ use Rattle.unit.specs.Unit.{code, unitOf}
 use Rattle.table6.specs.EventCodes as event
 use Rattle.link.specs.Signal.{none, num}
 use Rattle.event.specs.Frame.{EV, written}
-use Rattle.sscf.specs.Step.{records, outputOctets}
+use Rattle.step.specs.Step.{records, outputOctets}
 use Rattle.sscf.specs.Fresh.{freshCall}
-use Rattle.history.specs.Calls.{Call, fresh, step, World, made, run}
+use Rattle.history.specs.Calls.{Call, fresh, step, burst, World, made, run}
 use Rattle.history.specs.History.{Mark, history}
 use Rattle.history.specs.Pics.{Source, sourced}
 use Rattle.history.specs.Tests.{stands, alive, sent, due, toldIns, heardIns}
@@ -80,6 +80,21 @@ In calls = Shows calls true (true ∷ true ∷ true ∷ true ∷ [])
 abbrev pub Out : List Call → List Bool → Type 0
 Out calls hold = Shows calls false hold
 
+-- The same of one burst: the events of steps end to end, and octets behind them. So many events are accepted.
+abbrev pub octets : List Call → List ℕ
+octets [] = []
+octets (step e o ∷ calls) = e ++ octets calls
+octets (fresh buffer n1 ∷ calls) = octets calls
+octets (burst es o l ∷ calls) = es ++ octets calls
+
+abbrev pub in-one : List Call → List ℕ → Call
+in-one calls behind = burst (octets calls ++ behind) (replicate (outputOctets + 400) 0) (replicate (length calls) 0)
+
+pub record InBurst (calls : List Call) (behind : List ℕ) (events : ℕ) (in-service : Bool) (hold : List Bool) : Type 0 where
+  pub accepted : length (after (in-one calls behind ∷ []) .seen) ≡ events
+  pub service : stands (history (after (in-one calls behind ∷ [])) 1) ≡ in-service
+  pub condition : conditions (history (after (in-one calls behind ∷ [])) 1) ≡ hold
+
 -- two proving units, the peer's INS unit, and with the third expiry the link's own
 abbrev pub proved : List Call
 proved = START ∷ ESTABLISH-confirm Status.NM ∷ T3 ∷ T3 ∷ DATA Status.INS ∷ T3 ∷ []
@@ -109,3 +124,7 @@ pub record Witness : Type 0 where
   pub refused : history (after (START ∷ START ∷ [])) 1 ≡ history (after (START ∷ [])) 1
   pub anew : history (after (proved ++ fresh (replicate 16 0) 3 ∷ [])) 1 ≡ []
   pub of-another : history (after proved) 0 ≡ []
+  -- A burst counts as its single calls: all six events take the link into service, past a seventh that is refused too, and before a broken frame what was done stands.
+  pub as-burst : InBurst proved [] 6 true (true ∷ true ∷ true ∷ true ∷ [])
+  pub past-refused : InBurst (START ∷ proved) [] 6 true (true ∷ true ∷ true ∷ true ∷ [])
+  pub up-to-broken : InBurst (START ∷ []) (0 ∷ []) 1 false (false ∷ false ∷ false ∷ false ∷ [])

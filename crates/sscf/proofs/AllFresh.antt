@@ -13,11 +13,11 @@ use Rattle.unit.proofs.Checks.{clear}
 use Rattle.link.specs.Fresh.{freshLink}
 use Rattle.record.specs.LinkRecord.{wellFormed, octetsOf}
 use Rattle.record.proofs.LinkRecord.{octets-length, packed-well}
-use Rattle.sscf.specs.declared.checks.Refusal.{Refusal}
-use Rattle.sscf.specs.Step.{records, recordAt}
+use Rattle.step.specs.declared.Refusal.{Refusal}
+use Rattle.step.specs.Step.{records, recordAt}
 use Rattle.sscf.specs.Fresh.{freshChecks, Made, copies, made, freshCall}
 use Rattle.sscf.specs.Untouched.{FreshRefusalsUntouched, AllFresh, FreshWellFormed}
-use Rattle.sscf.proofs.Untouched.{number-above}
+use Rattle.step.proofs.Untouched.{number-above}
 
 -- a table is refused, or it is made
 module _ (t : List ℕ) (n1 : ℕ) (P : Made → Type 0) (r : (x : Refusal) → P (made (refused x) t n1)) (a : first (freshChecks t n1) ≡ passed → P (made passed t n1)) where

@@ -1,6 +1,6 @@
 pub mod AllFresh
+pub mod BurstCall
+pub mod BurstLaws
 pub mod Copies
 pub mod OneAnswer
-pub mod Places
-pub mod Taken
-pub mod Untouched
+pub mod Singles

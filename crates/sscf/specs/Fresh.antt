@@ -5,9 +5,9 @@ use lib.Dec.{eqb}
 use Rattle.unit.specs.Checks.{Check, _if_, Verdict, passed, refused, first}
 use Rattle.link.specs.Fresh.{freshLink}
 use Rattle.record.specs.LinkRecord.{octetsOf}
-use Rattle.sscf.specs.declared.checks.Refusal.{Refusal}
-use Rattle.sscf.specs.Checks.{number}
-use Rattle.sscf.specs.Step.{badTable, records}
+use Rattle.step.specs.declared.Refusal.{Refusal}
+use Rattle.step.specs.Checks.{number}
+use Rattle.step.specs.Step.{badTable, records}
 
 -- "It refuses by 1 as above, then by 4 if n1 is 0, leaving the buffer untouched."
 abbrev pub freshChecks : List ℕ → ℕ → List (Check Refusal)

@@ -1,6 +1,5 @@
-pub mod Checks
-pub mod Step
-pub mod Plan
 pub mod Fresh
 pub mod Untouched
+pub mod Burst
+pub mod BurstLaws
 pub mod Version

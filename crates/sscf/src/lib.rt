@@ -1,30 +1,23 @@
-// The calls for C hosts: a fresh table, one event for one link of a table, and which version this is.
-mod checks;
+// The calls for C hosts: a fresh table, one event for one link of a table, a burst of events, and which version this is.
+mod burst;
 
-use checks::Plan;
-use checks::Refusal;
 use octet::put_at;
 use record::RECORD;
-use signal::put_all;
+use step::Answer;
+use step::Refusal;
+use step::bad_table;
 ghost use mathlib.Core.Path.{_≡_};
 ghost use Prim.Native.Nat.{_%_};
 ghost use lib.ListN.{length};
 ghost use Rattle.record.specs.LinkRecord.{recordOctets};
-ghost use Rattle.sscf.specs.Checks.{number};
-ghost use Rattle.sscf.specs.Step.{records, answered, answering, stepCall};
+ghost use Rattle.step.specs.Checks.{number};
+ghost use Rattle.step.specs.Step.{records, answered, answering, stepCall};
+ghost use Rattle.sscf.specs.Burst.{burstAnswered, bursting, burstCall};
 ghost use Rattle.sscf.specs.Fresh.{copies, making, freshCall};
 ghost use Rattle.sscf.specs.Version.{version};
 
 // In place of a refusal's number.
 const ACCEPTED: u32 = 0;
-
-// What the step answers: 0 or the refusal, the octets written and the signals counted.
-#[repr(C)]
-pub struct Answer {
-    pub refusal: u32,
-    pub octets: u32,
-    pub signals: u32,
-}
 
 fn refused(r: Refusal) -> Answer
     ensures { λ a. ⌜ a ≡ answered (number r) 0 0 ⌝ }
@@ -41,21 +34,60 @@ fn refused(r: Refusal) -> Answer
 pub extern "C" fn sscf_step(table: &mut [u8], event: &[u8], out: &mut [u8]) -> Answer
     ensures { λ a. ⌜ answering a (now (table .exit)) (now (out .exit)) ≡ stepCall (now (table .entry)) (now (event .entry)) (now (out .entry)) ⌝ }
 {
-    match checks::planned(&table[..], event, out.len()) {
-        Plan::Refused(r) => refused(r),
-        Plan::Go { link, next, said } => {
-            // The record first: fewer values are held while the signals are written.
-            let packed = record::pack(next);
-            put_at(table, RECORD * link as usize, &packed);
-            let octets = put_all(out, said, event) as u32;
-            let signals = link::count(said) as u32;
-            Answer {
-                refusal: ACCEPTED,
-                octets: octets,
-                signals: signals,
-            }
-        }
+    if bad_table(&table[..]) {
+        return refused(Refusal::Table);
     }
+    let told = step::step(table, event, out);
+    Answer {
+        refusal: step::refusal_in(told),
+        octets: step::octets_in(told),
+        signals: step::signals_in(told),
+    }
+}
+
+// What a burst answers: 0 or the refusal; 2 if a broken frame ended it, else 0; the events that got a number, the octets of the events up to where it stopped, the
+// octets written and the signals counted.
+#[repr(C)]
+pub struct BurstAnswer {
+    pub refusal: u32,
+    pub broken: u32,
+    pub taken: usize,
+    pub at: usize,
+    pub octets: usize,
+    pub signals: usize,
+}
+
+fn burst_refused(r: Refusal) -> BurstAnswer
+    ensures { λ a. ⌜ a ≡ burstAnswered (number r) 0 0 0 0 0 ⌝ }
+{
+    BurstAnswer {
+        refusal: r.number(),
+        broken: 0,
+        taken: 0,
+        at: 0,
+        octets: 0,
+        signals: 0,
+    }
+}
+
+// Events end to end, as their single calls one after the other.
+#[no_mangle]
+pub extern "C" fn sscf_burst(
+    table: &mut [u8],
+    events: &[u8],
+    out: &mut [u8],
+    refusals: &mut [u32],
+) -> BurstAnswer
+    ensures { λ a. ⌜ bursting a (now (table .exit)) (now (out .exit)) (now (refusals .exit)) ≡ burstCall (now (table .entry)) (now (events .entry)) (now (out .entry)) (now (refusals .entry)) ⌝ }
+{
+    if bad_table(&table[..]) {
+        return burst_refused(Refusal::Table);
+    }
+    let n = burst::frames(events);
+    if refusals.len() < n {
+        return burst_refused(Refusal::List);
+    }
+    burst::run(table, events, out, refusals, n)
 }
 
 // Writes a record over all of a table, as often as it has place.
@@ -75,7 +107,7 @@ fn fill(table: &mut [u8], r: &[u8])
 pub extern "C" fn sscf_fresh(table: &mut [u8], n1: u16) -> u32
     ensures { λ a. ⌜ making a (now (table .exit)) ≡ freshCall (now (table .entry)) n1 ⌝ }
 {
-    if checks::bad_table(&table[..]) {
+    if bad_table(&table[..]) {
         return Refusal::Table.number();
     }
     if n1 == 0 {
@@ -86,10 +118,10 @@ pub extern "C" fn sscf_fresh(table: &mut [u8], n1: u16) -> u32
     ACCEPTED
 }
 
-// The version, 0.3.0.
+// The version, 0.4.0.
 #[no_mangle]
 pub extern "C" fn sscf_version() -> u32
     ensures { λ a. ⌜ a ≡ version ⌝ }
 {
-    3000
+    4000
 }

@@ -8,7 +8,7 @@ use lib.Dec.{eqb, ltb}
 use lib.ListN.{length, length-take, length-drop}
 use borrow.Author.Tests.{eqb-true, not-false}
 use Rattle.octet.proofs.Branches.{neither}
-use Rattle.sscf.specs.Step.{badTable, records, recordAt}
+use Rattle.step.specs.Step.{badTable, records, recordAt}
 
 -- a record within the table has sixteen octets, and its place is within too
 pub inside : (t : List ℕ) (k : ℕ) → k < records t → 16 * k + 16 ≤ length t

@@ -20,8 +20,8 @@ use Rattle.event.specs.EventRecord.{framed, eventOf}
 use Rattle.signal.specs.SignalRecord.{joined}
 use Rattle.event.proofs.Frame.{sound, message-length}
 use Rattle.signal.proofs.SignalRecord.{joined-small}
-use Rattle.sscf.specs.declared.checks.Refusal.{Refusal}
-use Rattle.sscf.specs.Step.{records, linkFor, checks, answered, answering, refusedBy, stepCall}
+use Rattle.step.specs.declared.Refusal.{Refusal}
+use Rattle.step.specs.Step.{records, linkFor, checks, answered, answering, refusedBy, stepCall}
 
 pub record Taken (t e : List ℕ) (room : ℕ) : Type 0 where
   pub sound : framed e ≡ true

@@ -20,12 +20,12 @@ use Rattle.event.specs.EventRecord.{eventOf}
 use Rattle.signal.specs.SignalRecord.{joined}
 use Rattle.octet.proofs.Over.{length-over, over-front, over-rest, length-put, put-there, put-before, put-after}
 use Rattle.record.proofs.LinkRecord.{octets-length, packed-well, unpacked-good}
-use Rattle.sscf.specs.declared.checks.Refusal.{Refusal}
-use Rattle.sscf.specs.Checks.{number}
-use Rattle.sscf.specs.Step.{recordAt, linkFor, checks, Outcome, answered, answering, refusedBy, performed, outcome, stepCall}
-use Rattle.sscf.specs.Untouched.{RefusalsUntouched, OthersUntouched, RestUntouched, AtMost4192, SameLengths, Refused4191, Taken4192, Written, AcceptedWritten, StaysWellFormed}
-use Rattle.sscf.proofs.Places.{inside}
-use Rattle.sscf.proofs.Taken.{taken, Makes, made-after, room-for, step-accepted}
+use Rattle.step.specs.declared.Refusal.{Refusal}
+use Rattle.step.specs.Checks.{number}
+use Rattle.step.specs.Step.{recordAt, linkFor, checks, Outcome, answered, answering, refusedBy, performed, outcome, stepCall}
+use Rattle.step.specs.Untouched.{RefusalsUntouched, OthersUntouched, RestUntouched, AtMost4192, SameLengths, Refused4191, Taken4192, Written, AcceptedWritten, StaysWellFormed}
+use Rattle.step.proofs.Places.{inside}
+use Rattle.step.proofs.Taken.{taken, Makes, made-after, room-for, step-accepted}
 
 -- what an accepted step comes to
 abbrev done : List ℕ → List ℕ → List ℕ → Link → List Signal → Outcome
@@ -58,6 +58,7 @@ number-above Refusal.Record = omega arith
 number-above Refusal.Timer = omega arith
 number-above Refusal.Cell = omega arith
 number-above Refusal.Room = omega arith
+number-above Refusal.List = omega arith
 
 pub refusals-untouched : RefusalsUntouched
 refusals-untouched t e o =

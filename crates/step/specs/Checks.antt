@@ -1,7 +1,7 @@
--- Refusals with document 01's numbers.
+-- Refusals with document 01's numbers, and 2026-04's of a burst.
 use Prim.Native.Nat.{ℕ}
-use Rattle.table6.specs.RefusalCodes.{REFUSED-TABLE, REFUSED-FRAME, REFUSED-CODE, REFUSED-FIELD, REFUSED-LINK, REFUSED-RECORD, REFUSED-TIMER, REFUSED-STATE, REFUSED-OUTPUT}
-use Rattle.sscf.specs.declared.checks.Refusal.{Refusal}
+use Rattle.table6.specs.RefusalCodes.{REFUSED-TABLE, REFUSED-FRAME, REFUSED-CODE, REFUSED-FIELD, REFUSED-LINK, REFUSED-RECORD, REFUSED-TIMER, REFUSED-STATE, REFUSED-OUTPUT, REFUSED-LIST}
+use Rattle.step.specs.declared.Refusal.{Refusal}
 
 abbrev pub number : Refusal → ℕ
 number Refusal.Table = REFUSED-TABLE
@@ -13,3 +13,4 @@ number Refusal.Record = REFUSED-RECORD
 number Refusal.Timer = REFUSED-TIMER
 number Refusal.Cell = REFUSED-STATE
 number Refusal.Room = REFUSED-OUTPUT
+number Refusal.List = REFUSED-LIST

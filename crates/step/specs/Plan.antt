@@ -1,17 +1,22 @@
--- What a plan of the code stands for. Nothing here has to be believed: the step's promise ties it to Step.antt.
-use Prim.Native.Nat.{ℕ}
+-- What a plan of the code stands for, and an answer as one number. Nothing here has to be believed: the promises of the calls tie it to Step.antt and Burst.antt.
+use Prim.Native.Nat.{ℕ, _/_, _%_}
 use mathlib.Core.Path.{_≡_}
 use mathlib.Core.List.{List}
 use Rattle.unit.specs.Checks.{Check, passed, refused, first}
 use Rattle.link.specs.Step as machine
 use Rattle.link.specs.Stored.{signalsOf}
-use Rattle.sscf.specs.declared.checks.Plan.{Plan}
-use Rattle.sscf.specs.declared.checks.Refusal.{Refusal}
+use Rattle.step.specs.declared.checks.Plan.{Plan}
+use Rattle.step.specs.declared.Refusal.{Refusal}
 use Rattle.event.specs.Frame.{linkAt}
 use Rattle.event.specs.EventRecord.{eventOf}
-use Rattle.sscf.specs.Step.{linkFor}
+use Rattle.step.specs.declared.Answer.{Answer}
+use Rattle.step.specs.Step.{linkFor, answered}
 
 -- A plan after some of the checks of a step.
 abbrev pub Planned : List (Check Refusal) → List ℕ → List ℕ → Plan → Type 0
 Planned cs t e (Plan.Refused r) = first cs ≡ refused r
 Planned cs t e (Plan.Go link next said) = (first cs ≡ passed) × (link ≡ linkAt e) × (machine.stepOf (linkFor t e) (eventOf e) ≡ machine.Legal next (signalsOf said))
+
+-- The number in which a step hands on its answer: the refusal in the lowest octet, the signals in the next, the octets from 2^32 on.
+abbrev pub toldBy : ℕ → Answer
+toldBy n = answered (n % 256) (n / 4294967296) (n / 256 % 256)

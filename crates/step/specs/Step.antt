@@ -13,9 +13,9 @@ use Rattle.record.specs.LinkRecord.{recordOctets, wellFormed, linkOf, octetsOf}
 use Rattle.event.specs.Frame.{headOctets, messageOctets, linkAt, codeAt, paramAt, numberAt, lengthAt, messageOf}
 use Rattle.event.specs.EventRecord.{framed, Coded, codedIn, eventOf, misfit}
 use Rattle.signal.specs.SignalRecord.{joined}
-use Rattle.sscf.specs.declared.Answer.{Answer}
-use Rattle.sscf.specs.declared.checks.Refusal.{Refusal}
-use Rattle.sscf.specs.Checks.{number}
+use Rattle.step.specs.declared.Answer.{Answer}
+use Rattle.step.specs.declared.Refusal.{Refusal}
+use Rattle.step.specs.Checks.{number}
 
 -- THE TABLE
 

@@ -1,21 +1,19 @@
--- What holds of the two calls on all octets, said plainly: what each leaves alone, and what it has written. All of it follows from Step.antt and Fresh.antt.
-use Prim.Native.Nat.{ℕ, _≤_, _<_}
+-- What holds of a step on all octets, said plainly: what it leaves alone, and what it has written. All of it follows from Step.antt.
+use Prim.Native.Nat.{ℕ, _≤_}
 use mathlib.Core.Path.{_≡_}
 use mathlib.Core.Bool.{true}
 use mathlib.Core.List.{List}
 use lib.ListN.{length, take, drop}
 use Rattle.link.specs.declared.Link.{Link}
 use Rattle.link.specs.declared.Signal.{Signal}
-use Rattle.link.specs.Fresh.{freshLink}
 use Rattle.link.specs.Step as machine
 use Rattle.record.specs.LinkRecord.{wellFormed, octetsOf}
 use Rattle.event.specs.Frame.{linkAt, messageOf}
 use Rattle.event.specs.EventRecord.{eventOf}
 use Rattle.signal.specs.SignalRecord.{joined}
-use Rattle.sscf.specs.Step.{records, recordAt, linkFor, answered, answering, Outcome, stepCall}
-use Rattle.sscf.specs.Fresh.{freshCall}
+use Rattle.step.specs.Step.{recordAt, linkFor, answered, answering, Outcome, stepCall}
 
--- THE STEP. A refusal answers no octets and no signals, and changes nothing.
+-- A refusal answers no octets and no signals, and changes nothing.
 abbrev pub RefusalsUntouched : Type 0
 RefusalsUntouched = (t e o : List ℕ) → 1 ≤ stepCall t e o .answer .refusal → stepCall t e o ≡ answering (answered (stepCall t e o .answer .refusal) 0 0) t o
 
@@ -57,13 +55,3 @@ AcceptedWritten = (t e o : List ℕ) → stepCall t e o .answer .refusal ≡ 0 �
 -- A well-formed record stays well-formed.
 abbrev pub StaysWellFormed : Type 0
 StaysWellFormed = (t e o : List ℕ) (k : ℕ) → wellFormed (recordAt t k) ≡ true → wellFormed (recordAt (stepCall t e o .table) k) ≡ true
-
--- THE FRESH-TABLE MAKER. A refusal changes nothing; else every record is that of a fresh link, and well-formed.
-abbrev pub FreshRefusalsUntouched : Type 0
-FreshRefusalsUntouched = (t : List ℕ) (n1 : ℕ) → 1 ≤ freshCall t n1 .answer → freshCall t n1 .table ≡ t
-
-abbrev pub AllFresh : Type 0
-AllFresh = (t : List ℕ) (n1 k : ℕ) → freshCall t n1 .answer ≡ 0 → k < records t → recordAt (freshCall t n1 .table) k ≡ octetsOf (freshLink n1)
-
-abbrev pub FreshWellFormed : Type 0
-FreshWellFormed = (t : List ℕ) (n1 k : ℕ) → freshCall t n1 .answer ≡ 0 → k < records t → wellFormed (recordAt (freshCall t n1 .table) k) ≡ true

@@ -1,5 +1,7 @@
 // Document 01's checks, in its order: the first that holds refuses the call.
 
+use crate::ROOM;
+use crate::Refusal;
 use event::Reading;
 use link::Link;
 use link::Reply;
@@ -12,52 +14,8 @@ ghost use Prim.Native.Nat.{_≤_, _<_};
 ghost use lib.ListN.{length, drop};
 ghost use Rattle.record.specs.LinkRecord.{slotOf, found};
 ghost use Rattle.event.specs.Frame.{headOctets};
-ghost use Rattle.sscf.specs.Checks.{number};
-ghost use Rattle.sscf.specs.Step.{badTable, records, recordAt, idle, checks};
-ghost use Rattle.sscf.specs.Plan.{Planned};
-
-pub enum Refusal {
-    Table,
-    Frame,
-    Code,
-    Field,
-    Link,
-    Record,
-    Timer,
-    Cell,
-    Room,
-}
-
-impl Refusal {
-    pub fn number(self) -> u32
-        ensures { λ r. ⌜ r ≡ number self ⌝ }
-    {
-        match self {
-            Refusal::Table => 1,
-            Refusal::Frame => 2,
-            Refusal::Code => 3,
-            Refusal::Field => 4,
-            Refusal::Link => 5,
-            Refusal::Record => 6,
-            Refusal::Timer => 7,
-            Refusal::Cell => 8,
-            Refusal::Room => 9,
-        }
-    }
-}
-
-// The octets of the longest table, and the least of an output.
-const TABLE: usize = 4096;
-
-const ROOM: usize = 4192;
-
-// Check 1.
-pub fn bad_table(t: &[u8]) -> bool
-    ensures { λ r. ⌜ r ≡ badTable (now (t .entry)) ⌝ }
-{
-    let size = t.len();
-    (size == 0) | (size % RECORD != 0) | (TABLE < size)
-}
+ghost use Rattle.step.specs.Step.{records, recordAt, idle, checks};
+ghost use Rattle.step.specs.Plan.{Planned};
 
 // The record of link k.
 fn slot_at(t: &[u8], k: usize) -> Slot
@@ -119,13 +77,10 @@ fn link_plan(t: &[u8], e: &[u8], room: usize) -> Plan
     }
 }
 
-// All nine.
+// Checks 2 to 9, of a table that has passed the first.
 pub fn planned(t: &[u8], e: &[u8], room: usize) -> Plan
-    ensures { λ r. ⌜ Planned (checks (now (t .entry)) (now (e .entry)) room) (now (t .entry)) (now (e .entry)) r ⌝ }
+    ensures { λ r. ⌜ Planned (drop 1 (checks (now (t .entry)) (now (e .entry)) room)) (now (t .entry)) (now (e .entry)) r ⌝ }
 {
-    if bad_table(t) {
-        return Plan::Refused(Refusal::Table);
-    }
     match event::read_event(e) {
         Reading::BadFrame => Plan::Refused(Refusal::Frame),
         Reading::UnknownCode => Plan::Refused(Refusal::Code),

@@ -10,9 +10,9 @@ use borrow.Author.Needs.{needs}
 use Rattle.link.specs.Fresh.{freshLink}
 use Rattle.record.specs.LinkRecord.{octetsOf}
 use Rattle.record.proofs.LinkRecord.{octets-length}
-use Rattle.sscf.specs.Step.{badTable}
+use Rattle.step.specs.Step.{badTable}
 use Rattle.sscf.specs.Fresh.{copies, making, freshCall}
-use Rattle.sscf.proofs.Places.{whole}
+use Rattle.step.proofs.Places.{whole}
 use Rattle.sscf.proofs.sscf_fresh.Statement.{statement}
 use Rattle.sscf.proofs.sscf_fresh.Tie as tie
 

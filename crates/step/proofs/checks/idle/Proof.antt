@@ -6,8 +6,8 @@ use lib.Dec.{eqb}
 use borrow.Author.Tests.{eq-eqb, ne-eqb}
 use Rattle.table6.specs.EventCodes.{T1-expired, T2-expired, T3-expired}
 use Rattle.octet.proofs.Branches.{on, off, or-on, or-off}
-use Rattle.sscf.proofs.checks.idle.Statement.{statement}
-use Rattle.sscf.proofs.checks.idle.Tie as tie
+use Rattle.step.proofs.checks.idle.Statement.{statement}
+use Rattle.step.proofs.checks.idle.Tie as tie
 
 t1-idle : (j : tie.Joined1) → let a = j .before .args in j .if1 .if2 ≡ (eqb (a .code) T1-expired && not (a .l .t1))
 t1-idle j =

@@ -18,10 +18,10 @@ use Rattle.record.specs.LinkRecord.{recordOctets, wellFormed, slotOf, found}
 use Rattle.event.specs.Frame.{linkAt, codeAt}
 use Rattle.record.proofs.LinkRecord.{SlotTold, slot-tells}
 use Rattle.event.specs.EventRecord.{eventOf}
-use Rattle.sscf.specs.Step.{records, recordAt, idle}
-use Rattle.sscf.proofs.Places.{record-length}
-use Rattle.sscf.proofs.checks.link_plan.Statement.{statement}
-use Rattle.sscf.proofs.checks.link_plan.Tie as tie
+use Rattle.step.specs.Step.{records, recordAt, idle}
+use Rattle.step.proofs.Places.{record-length}
+use Rattle.step.proofs.checks.link_plan.Statement.{statement}
+use Rattle.step.proofs.checks.link_plan.Tie as tie
 
 -- past check 5: the table, the event, and the named record, which the code finds by its number k
 abbrev T : tie.Else1 → List ℕ

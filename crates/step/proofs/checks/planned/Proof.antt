@@ -11,34 +11,25 @@ use Rattle.event.specs.declared.Reading.{Reading}
 use Rattle.event.specs.Frame.{EV}
 use Rattle.event.proofs.Frame.{sound}
 use Rattle.event.proofs.EventRecord.{coded, ToldOf, reading-tells}
-use Rattle.sscf.specs.declared.checks.Plan.{Plan}
-use Rattle.sscf.specs.declared.checks.Refusal.{Refusal}
-use Rattle.sscf.specs.Step.{badTable, unknown, checks}
-use Rattle.sscf.specs.Plan.{Planned}
-use Rattle.sscf.proofs.checks.planned.Statement.{statement}
-use Rattle.sscf.proofs.checks.planned.Tie as tie
+use Rattle.step.specs.declared.checks.Plan.{Plan}
+use Rattle.step.specs.declared.Refusal.{Refusal}
+use Rattle.step.specs.Step.{unknown, checks}
+use Rattle.step.specs.Plan.{Planned}
+use Rattle.step.proofs.checks.planned.Statement.{statement}
+use Rattle.step.proofs.checks.planned.Tie as tie
 
 code-unknown : (x : Coded) (b : Bool) → coded x ≡ b → unknown x ≡ not b
 code-unknown Coded.Unknown b h = ap not h
 code-unknown (Coded.Of e) b h = ap not h
 
--- past checks 1 to 4 those that are left decide
-left : (cs : List (Check Refusal)) (t e : List ℕ) (r : Plan) → first cs ≡ first (drop 4 cs) → Planned (drop 4 cs) t e r → Planned cs t e r
-left cs t e (Plan.Refused x) h p = h ∙ p
-left cs t e (Plan.Go l next said) h p = (h ∙ p .0, p .1, p .2)
-
-bad-table-requires : tie.Need-bad-table-requires
-bad-table-requires c κs = search needs
-
-returns : tie.Need-returns
-returns c = rw (sym (c .before .bad-table .ensures) ∙ c .if1 .taken)
-
-good : (c : tie.Else1) → badTable (c .before .before .before .before .args .t .now) ≡ false
-good c = sym (c .before .bad-table .ensures) ∙ c .if1 .left
+-- past some checks those that are left decide
+left : (cs ds : List (Check Refusal)) (t e : List ℕ) (r : Plan) → first cs ≡ first ds → Planned ds t e r → Planned cs t e r
+left cs ds t e (Plan.Refused x) h p = h ∙ p
+left cs ds t e (Plan.Go l next said) h p = (h ∙ p .0, p .1, p .2)
 
 -- what the reading of the event told
-told : (c : tie.After-read-event) (r : Reading) → c .read-event .result ≡ r → ToldOf (c .before .before .before .before .before .args .e .now) r
-told c r e = reading-tells (c .before .before .before .before .before .args .e .now) r (ap reading (sym e) ∙ c .read-event .ensures)
+told : (c : tie.After-read-event) (r : Reading) → c .read-event .result ≡ r → ToldOf (c .before .before .before .args .e .now) r
+told c r e = reading-tells (c .before .before .before .args .e .now) r (ap reading (sym e) ∙ c .read-event .ensures)
 
 read-event-requires : tie.Need-read-event-requires
 read-event-requires c κs = search needs
@@ -58,38 +49,37 @@ enum-told-4 c = search needs
 link-plan-requires : tie.Need-link-plan-requires
 link-plan-requires c κs = sound EV _ (told (c .before .before) Reading.Fits (c .enum-told4 .given .1) .0) .twelve
 
+returns : tie.Need-returns
+returns c = rw (told (c .before .before) Reading.BadFrame (c .enum-told .given .1))
+
 returns-2 : tie.Need-returns-2
-returns-2 c = rw (good (c .before .before .before), told (c .before .before) Reading.BadFrame (c .enum-told .given .1))
+returns-2 c =
+    let h = told (c .before .before) Reading.UnknownCode (c .enum-told2 .given .1) in
+    rw (h .0, code-unknown _ false (h .1))
 
 returns-3 : tie.Need-returns-3
 returns-3 c =
-    let h = told (c .before .before) Reading.UnknownCode (c .enum-told2 .given .1) in
-    rw (good (c .before .before .before), h .0, code-unknown _ false (h .1))
+    let h = told (c .before .before) Reading.Misfit (c .enum-told3 .given .1) in
+    rw (h .0, code-unknown _ true (h .1), h .2)
 
 returns-4 : tie.Need-returns-4
 returns-4 c =
-    let h = told (c .before .before) Reading.Misfit (c .enum-told3 .given .1) in
-    rw (good (c .before .before .before), h .0, code-unknown _ true (h .1), h .2)
-
-returns-5 : tie.Need-returns-5
-returns-5 c =
-    let a = c .before .before .before .before .before .before .before .before .args in
+    let a = c .before .before .before .before .before .before .args in
     let h = told (c .before .before .before) Reading.Fits (c .before .enum-told4 .given .1) in
-    left (checks (a .t .now) (a .e .now) (a .room)) (a .t .now) (a .e .now) (c .link-plan .result) (rw (good (c .before .before .before .before), h .0, code-unknown _ true (h .1), h .2)) (c .link-plan .ensures)
+    let cs = checks (a .t .now) (a .e .now) (a .room) in
+    left (drop 1 cs) (drop 4 cs) (a .t .now) (a .e .now) (c .link-plan .result) (rw (h .0, code-unknown _ true (h .1), h .2)) (c .link-plan .ensures)
 
 pub planned-spec : {M : Type 1} → statement M
 planned-spec =
     tie.close
     (tie.spec
-    bad-table-requires
-    returns
     read-event-requires
     enum-told
     enum-told-2
     enum-told-3
     enum-told-4
     link-plan-requires
+    returns
     returns-2
     returns-3
-    returns-4
-    returns-5)
+    returns-4)

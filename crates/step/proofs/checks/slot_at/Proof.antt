@@ -3,8 +3,8 @@ use mathlib.Core.Path.{_≡_, _∙_}
 use Prim.Native.Nat.{_+_, _*_, _-_}
 use native.Mathlib.Omega.{arith}
 use borrow.Author.Needs.{needs}
-use Rattle.sscf.proofs.checks.slot_at.Statement.{statement}
-use Rattle.sscf.proofs.checks.slot_at.Tie as tie
+use Rattle.step.proofs.checks.slot_at.Statement.{statement}
+use Rattle.step.proofs.checks.slot_at.Tie as tie
 
 mul-start : tie.Need-mul-start
 mul-start c = search needs

@@ -1,0 +1,5 @@
+pub mod OneAnswer
+pub mod Places
+pub mod Taken
+pub mod Told
+pub mod Untouched

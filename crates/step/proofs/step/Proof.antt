@@ -1,0 +1,172 @@
+-- `step::step` meets its contract. Assumes nothing.
+use mathlib.Core.Path.{_≡_, sym, ap, _∙_}
+use mathlib.Core.Bool.{false}
+use mathlib.Core.List.{List}
+use Prim.Native.Nat.{ℕ, _*_, _≤_}
+use native.Mathlib.Omega.{arith}
+use lib.ListN.{length, drop}
+use borrow.Author.Needs.{needs}
+use Rattle.link.specs.declared.Link.{Link}
+use Rattle.link.specs.declared.Signal.{Signal}
+use Rattle.link.specs.Stored.{signalsOf}
+use Rattle.unit.specs.Checks.{refused, first}
+use Rattle.octet.specs.Octets.{over, putAt}
+use Rattle.record.specs.LinkRecord.{recordOctets, octetsOf}
+use Rattle.event.specs.Frame.{EV, linkAt, messageOf}
+use Rattle.signal.specs.SignalRecord.{joined}
+use Rattle.event.proofs.Frame.{sound, message-length}
+use Rattle.step.specs.declared.checks.Plan.{Plan}
+use Rattle.step.specs.Step.{badTable, checks, answered, answering}
+use Rattle.step.specs.Plan.{Planned, toldBy}
+use Rattle.step.proofs.Places.{inside}
+use Rattle.step.proofs.Told.{refusal-back, acceptance-back}
+use Rattle.step.proofs.Taken.{Taken, taken, message-small, made-after, room-for, step-refused, step-accepted}
+use Rattle.step.proofs.step.Statement.{statement}
+use Rattle.step.proofs.step.Tie as tie
+
+-- of a good table the other checks decide
+past-first : (t e : List ℕ) (room : ℕ) → badTable t ≡ false → first (checks t e room) ≡ first (drop 1 (checks t e room))
+past-first t e room h = rw h
+
+-- past the checks: table, event, output, and the plan
+abbrev T : tie.After-link → List ℕ
+T c = c .before .before .before .before .before .before .before .args .table .now
+
+abbrev E : tie.After-link → List ℕ
+E c = c .before .before .before .before .before .before .before .args .event .now
+
+abbrev O : tie.After-link → List ℕ
+O c = c .before .before .before .before .before .before .before .args .out .now
+
+abbrev K : tie.After-link → ℕ
+K c = c .link .given .0 .0
+
+abbrev N : tie.After-link → Link
+N c = c .link .given .0 .1 .0
+
+abbrev S : tie.After-link → List Signal
+S c = signalsOf (c .link .given .0 .1 .1 .0)
+
+go : (c : tie.After-link) → Planned (checks (T c) (E c) (length (O c))) (T c) (E c) (Plan.Go (K c) (N c) (c .link .given .0 .1 .1 .0))
+go c =
+    let p : Planned (drop 1 (checks (T c) (E c) (length (O c)))) (T c) (E c) (Plan.Go (K c) (N c) (c .link .given .0 .1 .1 .0)) = rw (c .link .given .1) at (c .before .before .planned .ensures) in
+    (past-first (T c) (E c) (length (O c)) (c .before .before .before .before .before .before .before .pre) ∙ p .0, p .1, p .2)
+
+tk : (c : tie.After-link) → Taken (T c) (E c) (length (O c))
+tk c = taken (T c) (E c) (length (O c)) (go c .0)
+
+-- the signals have room
+fits : (c : tie.After-link) → length (joined (linkAt (E c)) (messageOf (E c)) (S c)) ≤ 4192
+fits c = room-for (T c) (E c) (tk c .sound) (go c .2)
+
+planned-requires : tie.Need-planned-requires
+planned-requires c κs = search needs
+
+enum-known-r : tie.Need-enum-known-r
+enum-known-r c = search needs
+
+number-requires : tie.Need-number-requires
+number-requires c κs = search needs
+
+cast-result : tie.Need-cast-result
+cast-result c = search needs
+
+enum-known-link : tie.Need-enum-known-link
+enum-known-link c = search needs
+
+pack-requires : tie.Need-pack-requires
+pack-requires c κs = search needs
+
+cast-put-at : tie.Need-cast-put-at
+cast-put-at c = search needs
+
+mul-put-at : tie.Need-mul-put-at
+mul-put-at c = search needs
+
+slice-aggregate-put-at : tie.Need-slice-aggregate-put-at
+slice-aggregate-put-at c = search needs
+
+put-at-requires : tie.Need-put-at-requires
+put-at-requires c κs =
+    let l = c .before .before .before .before in
+    omega (arith, go l .1, inside (T l) (linkAt (E l)) (tk l .inside), ap length (c .before .before .pack .ensures))
+
+put-all-requires : tie.Need-put-all-requires
+put-all-requires c κs =
+    let l = c .before .before .before .before .before .before .before .before in
+    let f = tk l .sound in
+    (sound EV _ f .twelve, sym (message-length EV (E l) f), message-small (E l) f, made-after (T l) (E l) (go l .2) .one-brought, omega (arith, fits l, tk l .wide))
+
+count-requires : tie.Need-count-requires
+count-requires c κs = search needs
+
+cast-signals : tie.Need-cast-signals
+cast-signals c = search needs
+
+-- both numbers are small
+few : (c : tie.After-count) → c .before .before .before .put-all .result ≤ 4192
+few c = omega (arith, c .before .before .before .put-all .ensures .answer, fits (c .before .before .before .before .before .before .before .before .before .before .before .before))
+
+mul-result : tie.Need-mul-result
+mul-result c = omega (arith, few c)
+
+mul-result-2 : tie.Need-mul-result-2
+mul-result-2 c = search needs
+
+add-result : tie.Need-add-result
+add-result c = omega (arith, few c, c .count .ok)
+
+same-length : tie.Need-same-length
+same-length c = search needs
+
+returns : tie.Need-returns
+returns c =
+    let a = c .before .before .before .before .before .before .before .before .before .args in
+    let r = c .before .before .r .given in
+    let p : first (drop 1 (checks (a .table .now) (a .event .now) (length (a .out .now)))) ≡ refused (r .0 .0) = rw (r .1) at (c .before .before .before .before .planned .ensures) in
+    let q = past-first (a .table .now) (a .event .now) (length (a .out .now)) (c .before .before .before .before .before .before .before .before .before .pre) in
+    (λ i. answering (toldBy (c .number .ensures i)) (a .table .now) (a .out .now))
+    ∙ (λ i. answering (refusal-back (r .0 .0) i) (a .table .now) (a .out .now))
+    ∙ sym (step-refused (a .table .now) (a .event .now) (a .out .now) (r .0 .0) (q ∙ p))
+
+same-length-2 : tie.Need-same-length-2
+same-length-2 c = search needs
+
+same-length-3 : tie.Need-same-length-3
+same-length-3 c = search needs
+
+returns-2 : tie.Need-returns-2
+returns-2 c =
+    let l = c .before .before .before .before .before .before .before .before .before .before .before .before in
+    let p = c .before .before .before .put-all .ensures in
+    let et : c .before .before .before .before .before .before .before .put-at .last .0 ≡ putAt (T l) (recordOctets * linkAt (E l)) (octetsOf (N l)) =
+    c .before .before .before .before .before .before .before .put-at .ensures ∙ (λ i. putAt (T l) (recordOctets * go l .1 i) (c .before .before .before .before .before .before .before .before .before .before .pack .ensures i)) in
+    (λ i. answering (acceptance-back (c .before .before .before .put-all .result) (c .count .result) (c .count .ok) i) (et i) (p .written i))
+    ∙ (λ i. answering (answered 0 (p .answer i) (c .count .ensures i)) (putAt (T l) (recordOctets * linkAt (E l)) (octetsOf (N l))) (over (joined (linkAt (E l)) (messageOf (E l)) (S l)) (O l)))
+    ∙ sym (step-accepted (T l) (E l) (O l) (go l .0) (go l .2))
+
+pub step-spec : {M : Type 1} → statement M
+step-spec =
+    tie.close
+    (tie.spec
+    planned-requires
+    enum-known-r
+    number-requires
+    cast-result
+    enum-known-link
+    pack-requires
+    cast-put-at
+    mul-put-at
+    slice-aggregate-put-at
+    put-at-requires
+    put-all-requires
+    count-requires
+    cast-signals
+    mul-result
+    mul-result-2
+    add-result
+    same-length
+    returns
+    same-length-2
+    same-length-3
+    returns-2)

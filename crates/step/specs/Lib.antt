@@ -1,0 +1,4 @@
+pub mod Checks
+pub mod Step
+pub mod Plan
+pub mod Untouched

@@ -1,0 +1,111 @@
+// One event for one link of a good table: what the single call and the burst have in common. It has two callers and stays a function of its own, so its code is in
+// the archive once; and it answers by one number, since one number comes back in a register (D63).
+mod checks;
+
+use checks::Plan;
+use octet::put_at;
+use record::RECORD;
+use signal::put_all;
+ghost use mathlib.Core.Path.{_≡_};
+ghost use mathlib.Core.Bool.{false};
+ghost use Rattle.step.specs.Checks.{number};
+ghost use Rattle.step.specs.Step.{badTable, answering, stepCall};
+ghost use Rattle.step.specs.Plan.{toldBy};
+
+pub enum Refusal {
+    Table,
+    Frame,
+    Code,
+    Field,
+    Link,
+    Record,
+    Timer,
+    Cell,
+    Room,
+    List,
+}
+
+impl Refusal {
+    pub fn number(self) -> u32
+        ensures { λ r. ⌜ r ≡ number self ⌝ }
+    {
+        match self {
+            Refusal::Table => 1,
+            Refusal::Frame => 2,
+            Refusal::Code => 3,
+            Refusal::Field => 4,
+            Refusal::Link => 5,
+            Refusal::Record => 6,
+            Refusal::Timer => 7,
+            Refusal::Cell => 8,
+            Refusal::Room => 9,
+            Refusal::List => 13,
+        }
+    }
+}
+
+// The octets of the longest table, and the least of an output.
+const TABLE: usize = 4096;
+
+pub const ROOM: usize = 4192;
+
+// Check 1. Of the place of the last octet it is asked by one mask and one comparison (D63).
+pub fn bad_table(t: &[u8]) -> bool
+    ensures { λ r. ⌜ r ≡ badTable (now (t .entry)) ⌝ }
+{
+    if t.len() == 0 {
+        return true;
+    }
+    let last = t.len() - 1;
+    (last % RECORD != RECORD - 1) | (TABLE <= last)
+}
+
+// What the step answers: 0 or the refusal, the octets written and the signals counted.
+#[repr(C)]
+pub struct Answer {
+    pub refusal: u32,
+    pub octets: u32,
+    pub signals: u32,
+}
+
+// Where signals and octets stand in the number. A refusal is the number by itself.
+const SIGNALS: u64 = 256;
+
+const OCTETS: u64 = 4294967296;
+
+pub fn step(table: &mut [u8], event: &[u8], out: &mut [u8]) -> u64
+    requires { ⌜ badTable (now table) ≡ false ⌝ }
+    ensures { λ n. ⌜ answering (toldBy n) (now (table .exit)) (now (out .exit)) ≡ stepCall (now (table .entry)) (now (event .entry)) (now (out .entry)) ⌝ }
+{
+    // Its place and length once for all: else they are read anew behind each write.
+    let e = &event[..];
+    match checks::planned(&table[..], e, out.len()) {
+        Plan::Refused(r) => r.number() as u64,
+        Plan::Go { link, next, said } => {
+            // The record first: fewer values are held while the signals are written.
+            let packed = record::pack(next);
+            put_at(table, RECORD * link as usize, &packed);
+            let octets = put_all(out, said, e) as u64;
+            let signals = link::count(said) as u64;
+            octets * OCTETS + signals * SIGNALS
+        }
+    }
+}
+
+pub fn refusal_in(n: u64) -> u32
+    ensures { λ r. ⌜ r ≡ toldBy n .refusal ⌝ }
+{
+    (n % SIGNALS) as u32
+}
+
+pub fn octets_in(n: u64) -> u32
+    ensures { λ r. ⌜ r ≡ toldBy n .octets ⌝ }
+{
+    (n / OCTETS) as u32
+}
+
+pub fn signals_in(n: u64) -> u32
+    ensures { λ r. ⌜ r ≡ toldBy n .signals ⌝ }
+{
+    (n / SIGNALS % 256) as u32
+}
