@@ -833,19 +833,18 @@ static struct second_answer refuse_short_output(struct step s)
     return refuse(take(&s) ? 9 : 8);
 }
 
-struct second_answer second_step(uint8_t *table, size_t table_octets,
-                                 const uint8_t *event, size_t event_octets,
-                                 uint8_t *out, size_t out_octets)
+/*
+ * All of a step but refusals 1 and 2, which a burst tests for itself. It takes second_step's own
+ * arguments in their order, so that from there it costs a jump and no call.
+ */
+static struct second_answer step_sound_frame(uint8_t *table, size_t table_octets,
+                                             const uint8_t *event, size_t event_octets,
+                                             uint8_t *out, size_t out_octets)
 {
-    struct step s = { table, event, out, 0, 0 };
+    struct step s = { table, event, out, (uint32_t)event_octets - HEADER, 0 };
     struct second_answer answer = { 0, 0, 0 };
     uint32_t refusal;
 
-    if (bad_table(table_octets))
-        return refuse(1);
-    if (bad_frame(event, event_octets))
-        return refuse(2);
-    s.length = (uint32_t)event_octets - HEADER;
     refusal = bad_fields(event, s.length);
     if (refusal != 0)
         return refuse(refusal);
@@ -862,6 +861,90 @@ struct second_answer second_step(uint8_t *table, size_t table_octets,
         return refuse(8);
     answer.octets = (uint32_t)(s.end - out);
     answer.signals = s.signals;
+    return answer;
+}
+
+struct second_answer second_step(uint8_t *table, size_t table_octets,
+                                 const uint8_t *event, size_t event_octets,
+                                 uint8_t *out, size_t out_octets)
+{
+    uint32_t refusal = bad_table(table_octets) ? 1 : bad_frame(event, event_octets) ? 2 : 0;
+
+    if (refusal != 0)
+        return refuse(refusal);
+    return step_sound_frame(table, table_octets, event, event_octets, out, out_octets);
+}
+
+/* A burst. */
+
+/* How many of the octets left are the frame that they begin with, or 0 if it is broken. */
+static size_t sound_frame(const uint8_t *event, size_t left)
+{
+    size_t octets;
+
+    if (left < HEADER)
+        return 0;
+    octets = HEADER + two(event + LENGTH);
+    return octets > left || bad_frame(event, octets) ? 0 : octets;
+}
+
+/* Whether more sound frames than the list has places stand before a broken one or the end. */
+static bool bad_list(size_t places, const uint8_t *events, size_t octets)
+{
+    size_t at, frame;
+
+    /* A list that would do for frames without messages does for any, and spares the walk. */
+    if (places >= octets / HEADER)
+        return false;
+    for (at = 0; at < octets; at += frame) {
+        frame = sound_frame(events + at, octets - at);
+        if (frame == 0)
+            return false;
+        if (places == 0)
+            return true;
+        places--;
+    }
+    return false;
+}
+
+static struct second_burst_answer refuse_burst(uint32_t number)
+{
+    struct second_burst_answer answer = { number, 0, 0, 0, 0, 0 };
+
+    return answer;
+}
+
+struct second_burst_answer second_burst(uint8_t *table, size_t table_octets,
+                                        const uint8_t *events, size_t events_octets,
+                                        uint8_t *out, size_t out_octets,
+                                        uint32_t *refusals, size_t refusals_count)
+{
+    struct second_burst_answer answer = { 0, 0, 0, 0, 0, 0 };
+
+    if (bad_table(table_octets))
+        return refuse_burst(1);
+    if (bad_list(refusals_count, events, events_octets))
+        return refuse_burst(13);
+    while (answer.at < events_octets) {
+        const uint8_t *event = events + answer.at;
+        size_t frame = sound_frame(event, events_octets - answer.at);
+        size_t room = out_octets - answer.octets;
+        struct second_answer one;
+
+        if (frame == 0) {
+            answer.broken = 2;
+            break;
+        }
+        /* Asked of every event, also of one that the step would refuse: none is refused by 9. */
+        if (room < ROOM)
+            break;
+        one = step_sound_frame(table, table_octets, event, frame, out + answer.octets, room);
+        refusals[answer.taken] = one.refusal;
+        answer.taken++;
+        answer.at += frame;
+        answer.octets += one.octets;
+        answer.signals += one.signals;
+    }
     return answer;
 }
 

@@ -21,6 +21,25 @@ struct second_answer second_step(uint8_t *table, size_t table_octets,
                                  const uint8_t *event, size_t event_octets,
                                  uint8_t *out, size_t out_octets);
 
+/*
+ * What a burst answers: the number of the refusal, or 0; 2 if a broken frame ended it, or 0; the
+ * events taken, where in their octets it stopped, the octets written and the signals in them.
+ */
+struct second_burst_answer {
+    uint32_t refusal, broken;
+    size_t taken, at, octets, signals;
+};
+
+/*
+ * Takes events that stand end to end, as so many steps would, and puts the refusal of each, or 0,
+ * into the list. Stops at a broken frame, and at an event for which the output has no room. Refuses
+ * by 1 or 13 with nothing written. The buffers are valid for their lengths and do not overlap.
+ */
+struct second_burst_answer second_burst(uint8_t *table, size_t table_octets,
+                                        const uint8_t *events, size_t events_octets,
+                                        uint8_t *out, size_t out_octets,
+                                        uint32_t *refusals, size_t refusals_count);
+
 /* A changeover message. Its heading is octet 6 whole, 0x31 for XCO and 0x41 for XCA; its service is 0. */
 struct second_changeover {
     uint8_t sub_service, service;
