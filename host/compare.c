@@ -1,9 +1,10 @@
 /*
  * Runs the library and the second machine side by side on equal buffers and holds their answers,
  * and every octet around them, against each other: each cell of Table 6 with each record, each
- * check alone and with the others, and long random histories. It ends at the first difference.
+ * check alone and with the others, long random histories, and bursts of events, these also against
+ * the library's own single calls. It ends at the first difference.
  *
- *     compare [SEED [CALLS]]     CALLS is that of the random histories
+ *     compare [SEED [CALLS [BURSTS]]]     of the random histories
  */
 #include <sscf_host.h>
 
@@ -19,14 +20,17 @@ enum { ROOM = SSCF_OUTPUT_OCTETS, LONGEST = 4096 }; /* the longest table and the
 
 enum { ALL_TIMERS = SSCF_TIMER_T1 | SSCF_TIMER_T2 | SSCF_TIMER_T3 };
 
-/* Room for lengths that must be refused, those among them that only a 16-bit number mistakes. */
-enum { TABLE_MAX = 0x10000 + 3 * RECORD, EVENT_MAX = HEAD + 0x10000 + LONGEST + 1, OUT_MAX = 0x10000 + ROOM };
+enum { MANY = 0x11000 }; /* events of a burst, so many that a 16-bit number mistakes them */
 
-/* One call as both are to get it. After it the table is what the call made of it. */
+/* Room for lengths that must be refused, those among them that only a 16-bit number mistakes. */
+enum { TABLE_MAX = 0x10000 + 3 * RECORD, EVENT_MAX = HEAD * MANY, OUT_MAX = HEAD * MANY + ROOM };
+
+/* One call as all are to get it. After it the table is what the call made of it. */
 struct call {
     uint8_t table[TABLE_MAX];
-    uint8_t event[EVENT_MAX];
+    uint8_t event[EVENT_MAX]; /* of a burst all events, end to end */
     size_t table_octets, event_octets, out_octets;
+    size_t places; /* of a burst's list */
 };
 
 static struct call call;
@@ -34,19 +38,29 @@ static struct call call;
 static unsigned long calls, into_service, out_of_service;
 static unsigned long forgotten[3]; /* a known BSNT: by ESTABLISH_CONFIRM, by ESTABLISH_INDICATION, by anything else */
 static unsigned long retrieved[2]; /* RETRIEVE_BSNT answered, without a number and with one */
-static unsigned long step_refusals[10], fresh_refusals[10];
+static unsigned long step_refusals[NUMBERS], fresh_refusals[NUMBERS];
 
 /*
- * The buffers of one side: guard, table, guard, event, guard, output, guard, close together, so
- * that an octet too many is seen. Both sides hold the same octets before every call.
+ * The buffers of one side: guard, list, guard, table, guard, event, guard, output, guard, close
+ * together, so that an octet too many is seen. All sides hold the same octets before every call.
  */
+enum { PLACE = sizeof(uint32_t) }; /* of a list */
+enum { SIDE_MAX = PLACE * MANY + TABLE_MAX + EVENT_MAX + OUT_MAX + 5 * GUARD };
+
 struct side {
-    uint8_t memory[TABLE_MAX + EVENT_MAX + OUT_MAX + 4 * GUARD];
+    uint32_t memory[SIDE_MAX / PLACE + 1];
+    uint32_t *list;
     uint8_t *table, *event, *out;
     size_t octets;
 };
 
-static struct side library, second;
+/* The last is for bursts alone: the events of one by the library's single calls. */
+static struct side library, second, single;
+
+static const char *name_of(const struct side *side)
+{
+    return side == &library ? "library" : side == &second ? "second" : "single calls";
+}
 
 /*
  * The old octets of the output change from call to call, so that one written as it was before does
@@ -59,44 +73,69 @@ static size_t octets_to_fill(const struct call *c)
     return reach > c->out_octets || calls % 64 == 0 ? c->out_octets : reach;
 }
 
-static void lay_out(struct side *side, const struct call *c, int fill)
+/* The list first, behind as many octets as keep it where numbers may stand. */
+static void lay_out(struct side *side, const struct call *c, int fill, size_t filled)
 {
-    side->table = put_guard(side->memory);
+    uint8_t *memory = (uint8_t *)side->memory, *list = put_guard(memory);
+
+    side->list = side->memory + GUARD / PLACE;
+    memset(list, fill, PLACE * c->places);
+    side->table = put_guard(list + PLACE * c->places);
     memcpy(side->table, c->table, c->table_octets);
     side->event = put_guard(side->table + c->table_octets);
     memcpy(side->event, c->event, c->event_octets);
     side->out = put_guard(side->event + c->event_octets);
-    memset(side->out, fill, octets_to_fill(c));
-    side->octets = (size_t)(put_guard(side->out + c->out_octets) - side->memory);
+    memset(side->out, fill, filled);
+    side->octets = (size_t)(put_guard(side->out + c->out_octets) - memory);
 }
 
-static int same_memory(const struct call *c)
+static int guards_broken(const struct side *side, const struct call *c)
 {
-    return memcmp(library.memory, second.memory, library.octets) == 0
+    return guard_broken((const uint8_t *)side->memory)
+        || guard_broken((const uint8_t *)(side->list + c->places))
+        || guard_broken(side->table + c->table_octets)
+        || guard_broken(side->event + c->event_octets)
+        || guard_broken(side->out + c->out_octets);
+}
+
+static int same_memory(const struct call *c, const struct side *other)
+{
+    return memcmp(library.memory, other->memory, library.octets) == 0
         && memcmp(library.event, c->event, c->event_octets) == 0
-        && !guard_broken(library.memory)
-        && !guard_broken(library.table + c->table_octets)
-        && !guard_broken(library.event + c->event_octets)
-        && !guard_broken(library.out + c->out_octets);
+        && !guards_broken(&library, c);
 }
 
-static void print_memory(const struct call *c)
+static void print_memory(const struct call *c, const struct side *other)
 {
-    print_first_octet("table", library.table, second.table, c->table_octets);
-    print_first_octet("event", library.event, second.event, c->event_octets);
-    print_first_octet("output", library.out, second.out, c->out_octets);
-    if (guard_broken(library.memory) || guard_broken(library.table + c->table_octets)
-        || guard_broken(library.event + c->event_octets) || guard_broken(library.out + c->out_octets))
+    const char *name = name_of(other);
+
+    print_first_octet("list, four octets a number", name, (const uint8_t *)library.list,
+                      (const uint8_t *)other->list, PLACE * c->places);
+    print_first_octet("table", name, library.table, other->table, c->table_octets);
+    print_first_octet("event", name, library.event, other->event, c->event_octets);
+    print_first_octet("output", name, library.out, other->out, c->out_octets);
+    if (guards_broken(&library, c))
         printf("library: writes beside its buffers\n");
-    if (guard_broken(second.memory) || guard_broken(second.table + c->table_octets)
-        || guard_broken(second.event + c->event_octets) || guard_broken(second.out + c->out_octets))
-        printf("second: writes beside its buffers\n");
+    if (guards_broken(other, c))
+        printf("%s: writes beside its buffers\n", name);
+}
+
+static void print_case(const struct call *c)
+{
+    size_t links = c->table_octets / RECORD;
+
+    printf("the case for the trace program, to be fed by xxd -r -p | trace:\n");
+    printf("%02x%02x\n", (unsigned)(links >> 8 & 255), (unsigned)(links & 255));
+    print_hex(c->table, c->table_octets);
+    print_hex(c->event, c->event_octets);
+    if (links == 0 || c->table_octets > LONGEST || c->table_octets % RECORD != 0
+        || c->out_octets < ROOM)
+        printf("(it gives the step its own lengths: a wrong one of table or output it cannot"
+               " show)\n");
 }
 
 static void differ_in_step(const struct call *c, struct sscf_answer a, struct second_answer b)
 {
-    size_t links = c->table_octets / RECORD;
-
     printf("compare: a difference, in call %lu\n", calls);
     printf("table %lu octets, event %lu, output %lu\n", (unsigned long)c->table_octets,
            (unsigned long)c->event_octets, (unsigned long)c->out_octets);
@@ -104,13 +143,8 @@ static void differ_in_step(const struct call *c, struct sscf_answer a, struct se
            (unsigned long)a.refusal, (unsigned long)a.octets, (unsigned long)a.signals);
     printf("second: refusal %lu, octets %lu, signals %lu\n",
            (unsigned long)b.refusal, (unsigned long)b.octets, (unsigned long)b.signals);
-    print_memory(c);
-    printf("the case for the trace program, to be fed by xxd -r -p | trace:\n");
-    printf("%02x%02x\n", (unsigned)(links >> 8 & 255), (unsigned)(links & 255));
-    print_hex(c->table, c->table_octets);
-    print_hex(c->event, c->event_octets);
-    if (links == 0 || c->table_octets > LONGEST || c->table_octets % RECORD != 0 || c->out_octets < ROOM)
-        printf("(it gives the step its own lengths: a wrong one of table or output it cannot show)\n");
+    print_memory(c, &second);
+    print_case(c);
     exit(1);
 }
 
@@ -119,7 +153,7 @@ static void differ_in_fresh(const struct call *c, unsigned n1, uint32_t a, uint3
     printf("compare: a difference, in call %lu\n", calls);
     printf("fresh, table %lu octets, n1 %u: library %lu, second %lu\n", (unsigned long)c->table_octets, n1,
            (unsigned long)a, (unsigned long)b);
-    print_memory(c);
+    print_memory(c, &second);
     printf("the table before it:\n");
     print_hex(c->table, c->table_octets);
     exit(1);
@@ -159,13 +193,14 @@ static uint32_t step(struct call *c)
     int fill = (int)(draw() & 255);
 
     calls++;
-    lay_out(&library, c, fill);
-    lay_out(&second, c, fill);
+    lay_out(&library, c, fill, octets_to_fill(c));
+    lay_out(&second, c, fill, octets_to_fill(c));
     a = sscf_step(library.table, c->table_octets, library.event, c->event_octets, library.out, c->out_octets);
     b = second_step(second.table, c->table_octets, second.event, c->event_octets, second.out, c->out_octets);
-    if (a.refusal != b.refusal || a.octets != b.octets || a.signals != b.signals || !same_memory(c))
+    if (a.refusal != b.refusal || a.octets != b.octets || a.signals != b.signals
+        || !same_memory(c, &second))
         differ_in_step(c, a, b);
-    if (a.refusal < 10)
+    if (a.refusal < NUMBERS)
         step_refusals[a.refusal]++;
     if (a.refusal == SSCF_ACCEPTED)
         count(c);
@@ -179,13 +214,13 @@ static uint32_t fresh(struct call *c, unsigned n1)
 
     calls++;
     c->event_octets = c->out_octets = 0;
-    lay_out(&library, c, 0);
-    lay_out(&second, c, 0);
+    lay_out(&library, c, 0, 0);
+    lay_out(&second, c, 0, 0);
     a = sscf_fresh(library.table, c->table_octets, (uint16_t)n1);
     b = second_fresh(second.table, c->table_octets, (uint16_t)n1);
-    if (a != b || !same_memory(c))
+    if (a != b || !same_memory(c, &second))
         differ_in_fresh(c, n1, a, b);
-    if (a < 10)
+    if (a < NUMBERS)
         fresh_refusals[a]++;
     memcpy(c->table, library.table, c->table_octets);
     return a;
@@ -586,12 +621,19 @@ static void spoil_field(struct call *c)
     }
 }
 
-static void spoil_records(struct call *c)
+/* An octet of a record that has its highest bit in none that is well-formed. */
+static unsigned place_to_spoil(void)
 {
     static const uint8_t places[] = { SSCF_LINK_AT_MARK, SSCF_LINK_AT_MARK + 1, SSCF_LINK_AT_STATE, SSCF_LINK_AT_FLAGS,
                                       SSCF_LINK_AT_MPS, SSCF_LINK_AT_UPS, SSCF_LINK_AT_TIMERS,
                                       SSCF_LINK_AT_BSNT_KNOWN, SSCF_LINK_AT_ZERO };
-    unsigned at = places[below(sizeof places)], n;
+
+    return places[below(sizeof places)];
+}
+
+static void spoil_records(struct call *c)
+{
+    unsigned at = place_to_spoil(), n;
 
     for (n = 0; n < 3; n++)
         record_of(c, n)[at] |= 0x80;
@@ -747,14 +789,26 @@ static void fresh_in_between(struct call *c, size_t octets)
     fresh(c, one_in(10) ? 0 : one_in(5) ? 250 + below(10) : 1 + below(3));
 }
 
-static void random_call(struct call *c, size_t octets)
+/* Of many links a few come often, so that each of these gets somewhere. */
+static unsigned any_link(size_t octets)
 {
     unsigned links = (unsigned)(octets / RECORD);
-    unsigned link = links > 4 && !one_in(4) ? below(4) * 85 : below(links);
-    uint8_t *record = record_of(c, link), *octet = record + below(RECORD), before = *octet;
+
+    return links > 4 && !one_in(4) ? below(4) * 85 : below(links);
+}
+
+static void next_event(struct call *c, unsigned link)
+{
+    make_event(c, link, one_in(4) ? any() : likely(record_of(c, link)[SSCF_LINK_AT_STATE]));
+}
+
+static void random_call(struct call *c, size_t octets)
+{
+    unsigned link = any_link(octets);
+    uint8_t *octet = record_of(c, link) + below(RECORD), before = *octet;
     int damaged = one_in(40);
 
-    make_event(c, link, one_in(4) ? any() : likely(record[SSCF_LINK_AT_STATE]));
+    next_event(c, link);
     if (one_in(30))
         damage_event(c);
     if (damaged)
@@ -785,13 +839,436 @@ static void histories(unsigned long count)
     }
 }
 
-int main(int argc, char **argv)
+/*
+ * Part 4: bursts. To the library's and the second machine's come the library's single calls, made
+ * one after the other on buffers of their own: this is what a burst has to equal.
+ */
+
+static struct call burst;
+static unsigned long bursts, events_taken;
+static unsigned long burst_refusals[NUMBERS], list_refusals[NUMBERS];
+
+/* What ended the bursts, by what is asked, and by what would be asked next. */
+enum { END_ROOM, END_FULL, FRAME_ROOM, FRAME_FULL, FULL_ACCEPTED, FULL_REFUSED, ENDS };
+static unsigned long ends[ENDS];
+
+/* Their lists, beside the sound frames: too short with no place at all, by one and by more. */
+enum { NONE, ONE_SHORT, SHORTER, EXACT, LONGER, LISTS };
+static unsigned long lists[LISTS];
+
+/* What is wrong with a frame. */
+enum { WRONG_CUT = 1, WRONG_MARK = 2, WRONG_ZERO = 4, WRONG_LONG = 8, WRONG_PAST = 16 };
+
+static size_t frame_octets(const uint8_t *event)
 {
-    unsigned long random_calls = argc > 2 ? strtoul(argv[2], NULL, 0) : 1000000, before;
+    return HEAD + sscf_get_16(event + SSCF_HEAD_AT_LENGTH);
+}
+
+static unsigned wrong_with(const uint8_t *event, size_t left)
+{
+    if (left < HEAD)
+        return WRONG_CUT;
+    return (memcmp(event + SSCF_HEAD_AT_MARK, "EV", 2) != 0 ? WRONG_MARK : 0)
+         | (event[SSCF_HEAD_AT_ZERO] != 0 ? WRONG_ZERO : 0)
+         | (frame_octets(event) > HEAD + LONGEST ? WRONG_LONG : 0)
+         | (frame_octets(event) > left ? WRONG_PAST : 0);
+}
+
+/* Up to the first broken one, or to the end. */
+static size_t sound_frames(const struct call *c)
+{
+    const uint8_t *event = c->event;
+    size_t left = c->event_octets, frames = 0;
+
+    while (left > 0 && wrong_with(event, left) == 0) {
+        left -= frame_octets(event);
+        event += frame_octets(event);
+        frames++;
+    }
+    return frames;
+}
+
+static uint32_t due_refusal(const struct call *c)
+{
+    if (c->table_octets == 0 || c->table_octets % RECORD != 0 || c->table_octets > LONGEST)
+        return SSCF_REFUSED_TABLE;
+    return c->places < sound_frames(c) ? SSCF_REFUSED_LIST : SSCF_ACCEPTED;
+}
+
+/*
+ * Whether single calls go on, as the papers order what is asked. What ended them is asked of the
+ * step, which refuses it and so changes nothing.
+ */
+static int goes_on(const struct call *c, struct sscf_burst_answer *answer)
+{
+    const uint8_t *event = single.event + answer->at;
+    uint8_t *out = single.out + answer->octets;
+    size_t left = c->event_octets - answer->at, room = c->out_octets - answer->octets;
+    int full = room < ROOM;
+
+    if (left == 0) {
+        ends[full ? END_FULL : END_ROOM]++;
+    } else if (wrong_with(event, left) != 0) {
+        answer->broken = sscf_step(single.table, c->table_octets, event, left, out, room).refusal;
+        ends[full ? FRAME_FULL : FRAME_ROOM]++;
+    } else if (full) {
+        struct sscf_answer one =
+            sscf_step(single.table, c->table_octets, event, frame_octets(event), out, room);
+
+        ends[one.refusal == SSCF_REFUSED_OUTPUT ? FULL_ACCEPTED : FULL_REFUSED]++;
+    } else {
+        return 1;
+    }
+    return 0;
+}
+
+/* A step writes to room of its own here, and what it tells is copied: the rest stays untouched. */
+static struct sscf_burst_answer single_calls(const struct call *c)
+{
+    static uint8_t out[ROOM];
+    struct sscf_burst_answer answer = { due_refusal(c), 0, 0, 0, 0, 0 };
+
+    while (answer.refusal == SSCF_ACCEPTED && goes_on(c, &answer)) {
+        const uint8_t *event = single.event + answer.at;
+        struct sscf_answer one =
+            sscf_step(single.table, c->table_octets, event, frame_octets(event), out, ROOM);
+
+        memcpy(single.out + answer.octets, out, one.octets);
+        single.list[answer.taken++] = one.refusal;
+        answer.at += frame_octets(event);
+        answer.octets += one.octets;
+        answer.signals += one.signals;
+    }
+    return answer;
+}
+
+static int same_answer(struct sscf_burst_answer a, struct sscf_burst_answer b)
+{
+    return a.refusal == b.refusal && a.broken == b.broken && a.taken == b.taken && a.at == b.at
+        && a.octets == b.octets && a.signals == b.signals;
+}
+
+static void print_answer(const struct side *side, struct sscf_burst_answer answer)
+{
+    printf("%s: refusal %lu, broken %lu, taken %lu, at %lu, octets %lu, signals %lu\n",
+           name_of(side), (unsigned long)answer.refusal, (unsigned long)answer.broken,
+           (unsigned long)answer.taken, (unsigned long)answer.at, (unsigned long)answer.octets,
+           (unsigned long)answer.signals);
+}
+
+static void hold_against(const struct call *c, const struct side *other,
+                         struct sscf_burst_answer ours, struct sscf_burst_answer theirs)
+{
+    if (same_answer(ours, theirs) && same_memory(c, other))
+        return;
+    printf("compare: a difference, in burst %lu\n", bursts);
+    printf("table %lu octets, events %lu, output %lu, list %lu places\n",
+           (unsigned long)c->table_octets, (unsigned long)c->event_octets,
+           (unsigned long)c->out_octets, (unsigned long)c->places);
+    print_answer(&library, ours);
+    print_answer(other, theirs);
+    print_memory(c, other);
+    print_case(c);
+    exit(1);
+}
+
+/* Where there is nothing to point to, every second burst has no pointer either. */
+static void *lent(void *buffer, size_t length)
+{
+    return length == 0 && bursts % 2 == 0 ? NULL : buffer;
+}
+
+static struct sscf_burst_answer by_library(const struct call *c)
+{
+    return sscf_burst(lent(library.table, c->table_octets), c->table_octets,
+                      lent(library.event, c->event_octets), c->event_octets,
+                      lent(library.out, c->out_octets), c->out_octets,
+                      lent(library.list, c->places), c->places);
+}
+
+static struct sscf_burst_answer by_second(const struct call *c)
+{
+    struct second_burst_answer b =
+        second_burst(lent(second.table, c->table_octets), c->table_octets,
+                     lent(second.event, c->event_octets), c->event_octets,
+                     lent(second.out, c->out_octets), c->out_octets,
+                     lent(second.list, c->places), c->places);
+    struct sscf_burst_answer answer = { b.refusal, b.broken, b.taken, b.at, b.octets, b.signals };
+
+    return answer;
+}
+
+static void count_burst(const struct call *c, struct sscf_burst_answer answer)
+{
+    size_t sound = sound_frames(c), n;
+
+    burst_refusals[answer.refusal]++;
+    if (answer.refusal == SSCF_REFUSED_LIST)
+        lists[c->places == 0 ? NONE : c->places + 1 == sound ? ONE_SHORT : SHORTER]++;
+    if (answer.refusal != SSCF_ACCEPTED)
+        return;
+    lists[c->places == sound ? EXACT : LONGER]++;
+    events_taken += answer.taken;
+    for (n = 0; n < answer.taken; n++)
+        if (library.list[n] < NUMBERS)
+            list_refusals[library.list[n]]++;
+    for (n = 0; n < c->table_octets; n += RECORD)
+        count_service(c->table + n, library.table + n);
+}
+
+/* No number of a list is four octets alike but 0, with which none is filled. */
+static struct sscf_burst_answer try_burst(struct call *c)
+{
+    struct sscf_burst_answer answer;
+    int fill = 1 + (int)below(255);
+
+    bursts++;
+    lay_out(&library, c, fill, c->out_octets);
+    lay_out(&second, c, fill, c->out_octets);
+    lay_out(&single, c, fill, c->out_octets);
+    answer = by_library(c);
+    hold_against(c, &second, answer, by_second(c));
+    hold_against(c, &single, answer, single_calls(c));
+    count_burst(c, answer);
+    memcpy(c->table, library.table, c->table_octets);
+    return answer;
+}
+
+enum { PLANNED = 64 }; /* events of a random burst, at most */
+
+/*
+ * A burst in the making: where each of its events begins, and what single calls write before each
+ * and in all. `call` has the table as these leave it, so that the next event can lead a link on.
+ */
+static struct {
+    size_t made, begins[PLANNED], written[PLANNED + 1];
+} plan;
+
+static void begin_burst(size_t octets)
+{
+    memcpy(call.table, burst.table, octets);
+    call.table_octets = octets;
+    plan.made = burst.event_octets = 0;
+}
+
+static void add_to_burst(void)
+{
+    static uint8_t out[ROOM];
+    struct sscf_answer answer = sscf_step(call.table, call.table_octets, call.event,
+                                          call.event_octets, out, ROOM);
+
+    memcpy(burst.event + burst.event_octets, call.event, call.event_octets);
+    plan.begins[plan.made++] = burst.event_octets;
+    plan.written[plan.made] = plan.written[plan.made - 1] + answer.octets;
+    burst.event_octets += call.event_octets;
+}
+
+/* How a frame is broken, and which one of the burst's. */
+enum { CUT, SIGNAL, MARK, ZERO, LONG, PAST_BY_ONE, PAST, WAYS };
+enum { FIRST, BETWEEN, LAST, PLACES };
+
+/* Counted are the frames that ended a burst and had nothing else wrong with them. */
+static unsigned long broken[PLACES][WAYS];
+
+static void count_broken(size_t at)
+{
+    static const unsigned ways[] = { [WRONG_CUT] = CUT, [WRONG_MARK] = MARK, [WRONG_ZERO] = ZERO,
+                                     [WRONG_LONG] = LONG, [WRONG_PAST] = PAST };
+    const uint8_t *event = burst.event + at;
+    size_t left = burst.event_octets - at;
+    unsigned wrong = wrong_with(event, left), way, place;
+
+    if ((wrong & (wrong - 1)) != 0)
+        return;
+    way = ways[wrong];
+    if (way == MARK && memcmp(event + SSCF_HEAD_AT_MARK, "SG", 2) == 0)
+        way = SIGNAL;
+    if (way == PAST && frame_octets(event) == left + 1)
+        way = PAST_BY_ONE;
+    place = at == 0 ? FIRST : way == CUT || at == plan.begins[plan.made - 1] ? LAST : BETWEEN;
+    broken[place][way]++;
+}
+
+/* The octets of a message that is too long are there, mostly, be they the events behind it. */
+static void make_too_long(uint8_t *event, size_t behind)
+{
+    size_t length = LONGEST + 1 + (one_in(2) ? 0 : below(one_in(8) ? 0x10000 - LONGEST - 1 : 200));
+
+    sscf_put_16(event + SSCF_HEAD_AT_LENGTH, (uint32_t)length);
+    if (behind < length && !one_in(8))
+        burst.event_octets += length - behind;
+}
+
+static void break_frame(size_t frame, unsigned way)
+{
+    uint8_t *event = burst.event + plan.begins[frame];
+    size_t behind = burst.event_octets - plan.begins[frame] - HEAD;
+    unsigned bit = below(16);
+
+    switch (way) {
+    case CUT:
+        burst.event_octets = plan.begins[frame] + 1 + below(HEAD - 1);
+        plan.made = frame + 1;
+        break;
+    case SIGNAL:
+        memcpy(event + SSCF_HEAD_AT_MARK, "SG", 2);
+        break;
+    case MARK:
+        if (one_in(2))
+            memcpy(event + SSCF_HEAD_AT_MARK, "LK", 2);
+        else
+            event[SSCF_HEAD_AT_MARK + bit / 8] ^= (uint8_t)(1 << bit % 8);
+        break;
+    case ZERO:
+        event[SSCF_HEAD_AT_ZERO] = (uint8_t)(1 + below(255));
+        break;
+    case LONG:
+        make_too_long(event, behind);
+        break;
+    default:
+        sscf_put_16(event + SSCF_HEAD_AT_LENGTH,
+                    (uint32_t)behind + (way == PAST_BY_ONE ? 1 : 2 + below(200)));
+    }
+}
+
+/* Half of the bursts stay whole, a quarter has one frame broken, an eighth two, and so on. */
+static void break_frames(void)
+{
+    while (plan.made > 0 && one_in(2)) {
+        size_t last = plan.made - 1;
+        size_t frame = one_in(8) ? 0 : one_in(4) ? last : below((uint32_t)plan.made);
+
+        break_frame(frame, below(WAYS));
+    }
+}
+
+/* Half of the outputs end by as much as a step asks for behind one of the events, or one less. */
+static size_t burst_output(void)
+{
+    static const size_t lengths[] = { 0, 1, 12, 4096, ROOM - 1, ROOM, ROOM + 1, 8192 };
+    size_t all = plan.written[plan.made], some = plan.written[below((uint32_t)plan.made + 1)];
+
+    switch (below(8)) {
+    case 0:
+        return lengths[below(8)];
+    case 1:
+        return below(2 * ROOM);
+    case 2: case 3:
+        return some + ROOM;
+    case 4: case 5:
+        return some + ROOM - 1;
+    default:
+        return all + ROOM + below(64);
+    }
+}
+
+static size_t list_length(void)
+{
+    size_t sound = sound_frames(&burst);
+
+    switch (below(16)) {
+    case 0:
+        return 0;
+    case 1:
+        return sound > 0 ? sound - 1 : 0;
+    case 2:
+        return below((uint32_t)sound + 1);
+    case 3: case 4: case 5:
+        return sound + 1 + below(20);
+    default:
+        return sound;
+    }
+}
+
+/* A spoiled record is refused and so stays as it is, until it is mended. */
+static void random_burst(size_t octets)
+{
+    unsigned count = one_in(8) ? below(PLANNED + 1) : below(16);
+    uint8_t *octet = record_of(&burst, any_link(octets)), spoiled = one_in(8) ? 0x80 : 0;
+    struct sscf_burst_answer answer;
+
+    octet += place_to_spoil();
+    *octet |= spoiled;
+    begin_burst(octets);
+    while (count-- > 0) {
+        next_event(&call, any_link(octets));
+        if (one_in(12))
+            spoil(&call, WRONG_CODE << below(3)); /* or the field, or the link */
+        add_to_burst();
+    }
+    break_frames();
+    burst.table_octets = one_in(30) ? wrong_table_length(octets) : octets;
+    burst.out_octets = burst_output();
+    burst.places = list_length();
+    answer = try_burst(&burst);
+    if (answer.broken != 0)
+        count_broken(answer.at);
+    *octet ^= spoiled;
+}
+
+static void burst_histories(unsigned long count)
+{
+    static const size_t sizes[] = { 1, 2, 256 };
+    unsigned long n;
+    size_t octets = 0;
+
+    for (n = 0; n < count; n++) {
+        if (n % 64 == 0) {
+            octets = RECORD * sizes[n / 64 % 3];
+            sscf_fresh(burst.table, octets, (uint16_t)(1 + below(3)));
+        }
+        random_burst(octets);
+    }
+}
+
+/* More events and signals than 16 bits count, and lists too short if all bits are looked at. */
+static void many_events(void)
+{
+    static const size_t places[] = { 0, MANY - 0x10000, MANY - 0x10000 + 1, MANY - 1, MANY };
+    size_t n;
+
+    sscf_fresh(burst.table, RECORD, 1);
+    for (n = 0; n < MANY; n++)
+        sscf_put_bare_event(burst.event + HEAD * n, HEAD, one_in(64) ? 1 : 0,
+                            n + 1 < MANY ? SSCF_EVENT_RETRIEVE_BSNT : SSCF_EVENT_START);
+    burst.table_octets = RECORD;
+    burst.event_octets = HEAD * MANY;
+    burst.out_octets = OUT_MAX;
+    for (n = 0; n < sizeof places / sizeof places[0]; n++) {
+        burst.places = places[n];
+        try_burst(&burst);
+    }
+}
+
+/* More octets than 16 bits count, in and out, with room that ends behind each of the events. */
+static void many_octets(void)
+{
+    static const struct kind longest = { SSCF_EVENT_DATA, 0, 0, LONGEST, -1 };
+    size_t n;
+
+    make_record(burst.table, SSCF_STATE_3_10_5, 0, 0, 1);
+    begin_burst(RECORD);
+    for (n = 0; n < 20; n++) {
+        make_event(&call, 0, longest);
+        add_to_burst();
+    }
+    burst.table_octets = RECORD;
+    burst.places = plan.made;
+    for (n = 0; n <= plan.made; n++) {
+        burst.out_octets = plan.written[n] + ROOM;
+        try_burst(&burst);
+        burst.out_octets--;
+        try_burst(&burst);
+    }
+}
+
+/* The parts. */
+
+static int steps(unsigned long random_calls)
+{
+    unsigned long before;
     int failed;
 
-    seed(argc > 1 ? strtoul(argv[1], NULL, 0) : 2140);
-    add_all_kinds();
     every_cell();
     printf("cells: %lu calls\n", calls);
     before = calls;
@@ -816,6 +1293,75 @@ int main(int argc, char **argv)
                          1 << SSCF_ACCEPTED | 1 << SSCF_REFUSED_TABLE | 1 << SSCF_REFUSED_FIELD);
     failed |= into_service == 0 || out_of_service == 0;
     failed |= forgotten[0] == 0 || forgotten[1] == 0 || forgotten[2] != 0 || retrieved[0] == 0 || retrieved[1] == 0;
-    printf("compare: %lu calls, 0 differences\n", calls);
+    return failed;
+}
+
+/* Bursts of every kind must have been there, or it says little that they did not differ. */
+static int never_counted(const char *what, const char *const *kinds, const unsigned long *counts,
+                         unsigned many)
+{
+    int missing = 0;
+    unsigned n;
+
+    printf("burst, times %s:", what);
+    for (n = 0; n < many; n++) {
+        printf("%s %s: %lu", n > 0 ? "," : "", kinds[n], counts[n]);
+        missing |= counts[n] == 0;
+    }
+    printf("\n");
+    if (missing)
+        printf("burst: one was never seen\n");
+    return missing;
+}
+
+static int never_so(void)
+{
+    static const char *const end_kinds[ENDS] = {
+        "at the end with room", "at the end without", "at a broken frame with room",
+        "at one without", "for want of room before an event else accepted",
+        "before one else refused"
+    };
+    static const char *const list_kinds[LISTS] = { "none", "one too short", "shorter", "exact",
+                                                    "longer" };
+    static const char *const ways[WAYS] = { "under 12 octets", "SG", "another mark", "octet 9",
+                                            "over 4,096", "one past the end", "more past it" };
+    int failed = never_counted("it ended", end_kinds, ends, ENDS);
+
+    failed |= never_counted("its first frame was broken by", ways, broken[FIRST], WAYS);
+    /* What is cut off is the last, and no other. */
+    failed |= never_counted("one between was", ways + 1, broken[BETWEEN] + 1, WAYS - 1);
+    failed |= never_counted("its last was", ways, broken[LAST], WAYS);
+    return failed | never_counted("its list was", list_kinds, lists, LISTS);
+}
+
+static int all_bursts(unsigned long random_bursts)
+{
+    int failed;
+
+    into_service = out_of_service = 0;
+    many_events();
+    many_octets();
+    burst_histories(random_bursts);
+    printf("bursts: %lu calls, %lu events taken, links into service %lu times, out of it %lu"
+           " times\n", bursts, events_taken, into_service, out_of_service);
+    failed = never_so();
+    failed |= never_seen("burst", burst_refusals, 1 << SSCF_ACCEPTED | 1 << SSCF_REFUSED_TABLE
+                                                      | 1 << SSCF_REFUSED_LIST);
+    /* No event is refused by 1, 2 or 9. */
+    failed |= never_seen("burst's list", list_refusals, 0x1F9);
+    return failed | (into_service == 0 || out_of_service == 0);
+}
+
+int main(int argc, char **argv)
+{
+    unsigned long random_calls = argc > 2 ? strtoul(argv[2], NULL, 0) : 1000000;
+    unsigned long random_bursts = argc > 3 ? strtoul(argv[3], NULL, 0) : 200000;
+    int failed;
+
+    seed(argc > 1 ? strtoul(argv[1], NULL, 0) : 2140);
+    add_all_kinds();
+    failed = steps(random_calls);
+    failed |= all_bursts(random_bursts);
+    printf("compare: %lu calls, %lu bursts, 0 differences\n", calls, bursts);
     return failed;
 }

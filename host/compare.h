@@ -69,38 +69,46 @@ static inline void print_hex(const uint8_t *at, size_t octets)
         printf("%02x%s", at[n], n + 1 == octets || n % 32 == 31 ? "\n" : "");
 }
 
-static inline void print_first_octet(const char *name, const uint8_t *a, const uint8_t *b, size_t octets)
+/* `other` is the name of what the library is held against. */
+static inline void print_first_octet(const char *name, const char *other, const uint8_t *a,
+                                     const uint8_t *b, size_t octets)
 {
     size_t n;
 
     for (n = 0; n < octets; n++) {
         if (a[n] != b[n]) {
-            printf("%s, octet %lu: library %u, second %u\n", name, (unsigned long)n, a[n], b[n]);
+            printf("%s, octet %lu: library %u, %s %u\n", name, (unsigned long)n, a[n], other, b[n]);
             return;
         }
     }
 }
 
+enum { NUMBERS = 14 }; /* the refusals of all calls are below it */
+
 /*
  * That there is no difference says little of an answer that was never given. `wanted` has a bit for
- * each refusal that the call can answer, 0 among them.
+ * each refusal that the call can answer, 0 among them; any other is one too many.
  */
 static inline int never_seen(const char *name, const unsigned long *refusals, unsigned wanted)
 {
-    int missing = 0;
+    int missing = 0, odd = 0;
     unsigned n;
 
     printf("%s, times each refusal was answered:", name);
-    for (n = 0; n < 10; n++) {
-        if (!(wanted >> n & 1))
+    for (n = 0; n < NUMBERS; n++) {
+        if (!(wanted >> n & 1)) {
+            odd |= refusals[n] != 0;
             continue;
+        }
         printf("%s %u: %lu", n > 0 ? "," : "", n, refusals[n]);
         missing |= refusals[n] == 0;
     }
     printf("\n");
     if (missing)
         printf("%s: one was never seen\n", name);
-    return missing;
+    if (odd)
+        printf("%s: one was seen that cannot be\n", name);
+    return missing | odd;
 }
 
 #endif

@@ -39,7 +39,7 @@ struct call {
 static struct call call;
 
 static unsigned long calls, round_trips;
-static unsigned long write_refusals[10], read_refusals[10];
+static unsigned long write_refusals[NUMBERS], read_refusals[NUMBERS];
 
 /*
  * The buffer of each side, a guard before it and another behind as many octets as are lent. What is
@@ -225,7 +225,7 @@ static void try_write(void)
     b = second_writes(call.message);
     if (a.refusal != b.refusal || !both_hold(a.refusal == SSCF_ACCEPTED ? NULL : call.octets))
         differ("writing", a, b);
-    if (a.refusal < 10)
+    if (a.refusal < NUMBERS)
         write_refusals[a.refusal]++;
     if (a.refusal == SSCF_ACCEPTED)
         read_back();
@@ -241,7 +241,7 @@ static void try_read(void)
     b = from_second(second_changeover_read(call.null ? NULL : second, call.count));
     if (!same_answer(a, b) || !both_hold(call.octets))
         differ("reading", a, b);
-    if (a.refusal < 10)
+    if (a.refusal < NUMBERS)
         read_refusals[a.refusal]++;
     if (a.refusal == SSCF_ACCEPTED)
         write_back(a.message);

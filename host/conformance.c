@@ -27,25 +27,28 @@ static void check(int ok, const char *what, int line)
 #define CHECK(ok) check((ok) != 0, #ok, __LINE__)
 
 /*
- * The three buffers, with guard octets before and behind each. A call works on `now`. `want` is
- * what all of it should hold afterwards, so that comparing the two shows any octet that was changed
- * and should not have been, within a buffer or beside it.
+ * The buffers, with guard octets before and behind each. A call works on `now`. `want` is what all
+ * of it should hold afterwards, so that comparing the two shows any octet that was changed and
+ * should not have been, within a buffer or beside it. A burst has its events in `event`. Each of
+ * them is a multiple of four octets, so that nothing lies between them.
  */
-enum { GUARD = 64 };
+enum { GUARD = 64, PLACES = 10 };
 
 struct memory {
     uint8_t guard_1[GUARD];
     uint8_t table[SSCF_TABLE_OCTETS_MAX + SSCF_LINK_OCTETS];
     uint8_t guard_2[GUARD];
-    uint8_t event[SSCF_HEAD_OCTETS + SSCF_MESSAGE_OCTETS_MAX + 1];
+    uint8_t event[5 * SSCF_HEAD_OCTETS + SSCF_MESSAGE_OCTETS_MAX + 4];
     uint8_t guard_3[GUARD];
-    uint8_t out[SSCF_OUTPUT_OCTETS];
+    uint8_t out[SSCF_OUTPUT_OCTETS + 256];
     uint8_t guard_4[GUARD];
+    uint32_t list[PLACES];
+    uint8_t guard_5[GUARD];
 };
 
 static struct memory now, want;
-static size_t table_octets, event_octets, out_octets; /* as lent to the library */
-static size_t want_octets, want_signals;              /* as it should answer */
+static size_t table_octets, event_octets, out_octets, places; /* as lent to the library */
+static size_t want_octets, want_signals;                      /* as it should answer */
 
 /* Records */
 
@@ -83,7 +86,9 @@ static void set_up(unsigned links)
     }
     now = litter;
     table_octets = SSCF_LINK_OCTETS * links;
+    event_octets = 0;
     out_octets = SSCF_OUTPUT_OCTETS;
+    places = PLACES;
     for (link = 0; link < links; link++)
         put_link(link, SSCF_STATE_1_1_1, 0, 0, 0, SSCF_N1_DEFAULT);
 }
@@ -97,11 +102,24 @@ static void want_nothing(void)
     want_signals = 0;
 }
 
+/* Behind those that are there. */
+static void add_event(unsigned link, unsigned code, unsigned parameter, uint32_t number,
+                      const uint8_t *message, size_t length)
+{
+    event_octets += sscf_put_event(now.event + event_octets, sizeof now.event - event_octets, link,
+                                   code, parameter, number, message, length);
+}
+
+static void add_bare_event(unsigned link, unsigned code)
+{
+    add_event(link, code, 0, 0, NULL, 0);
+}
+
 static void put_event(unsigned link, unsigned code, unsigned parameter, uint32_t number,
                       const uint8_t *message, size_t length)
 {
-    event_octets = sscf_put_event(now.event, sizeof now.event, link, code, parameter, number,
-                                  message, length);
+    event_octets = 0;
+    add_event(link, code, parameter, number, message, length);
     want_nothing();
 }
 
@@ -174,6 +192,22 @@ static void step_is(uint32_t refusal, int line)
     check(memcmp(&now, &want, sizeof now) == 0, "the buffers are as expected", line);
 }
 
+static void burst_is(uint32_t refusal, uint32_t broken, size_t taken, size_t at, int line)
+{
+    struct sscf_burst_answer answer =
+        sscf_burst(lent(now.table, table_octets), table_octets, lent(now.event, event_octets),
+                   event_octets, lent(now.out, out_octets), out_octets,
+                   places == 0 ? NULL : now.list, places);
+
+    check(answer.refusal == refusal, "the refusal is the one expected", line);
+    check(answer.broken == broken, "a frame is broken as expected", line);
+    check(answer.taken == taken, "the events taken are those expected", line);
+    check(answer.at == at, "it stopped where expected", line);
+    check(answer.octets == want_octets, "the octets are those expected", line);
+    check(answer.signals == want_signals, "the signals are those expected", line);
+    check(memcmp(&now, &want, sizeof now) == 0, "the buffers are as expected", line);
+}
+
 static void fresh_is(size_t octets, unsigned n1, uint32_t refusal, int line)
 {
     uint32_t answer = sscf_fresh(lent(now.table, octets), octets, (uint16_t)n1);
@@ -183,6 +217,8 @@ static void fresh_is(size_t octets, unsigned n1, uint32_t refusal, int line)
 }
 
 #define STEP(refusal) step_is((refusal), __LINE__)
+#define BURST(refusal, broken, taken, at)                                                          \
+    burst_is((refusal), (broken), (taken), (at), __LINE__)
 #define FRESH(octets, n1, refusal) fresh_is((octets), (n1), (refusal), __LINE__)
 
 static const uint8_t nm_unit[SSCF_UNIT_OCTETS] = {0, 0, 0, SSCF_STATUS_NM};
@@ -301,16 +337,22 @@ static void into_service(void)
     STEP(0);
 }
 
+/* What START comes to where nothing presses. */
+static void want_start(unsigned link, unsigned c1)
+{
+    want_link(link, SSCF_STATE_2_2_2, 0, T2, c1);
+    want_signal(link, SSCF_SIGNAL_ESTABLISH_REQUEST, SSCF_STATUS_NM, 0, NULL, 0);
+    want_report(link, 0, SSCF_REPORT_UPPER_ALN, 0);
+    want_bare_signal(link, SSCF_SIGNAL_SET_T2);
+}
+
 /* One life of link 1 among three. Links 0 and 2 must stay as they are, and that their records are
  * ill-formed is no concern of link 1. */
 
 static void aligns(void)
 {
     put_bare_event(1, SSCF_EVENT_START);
-    want_link(1, SSCF_STATE_2_2_2, 0, T2, 0);
-    want_signal(1, SSCF_SIGNAL_ESTABLISH_REQUEST, SSCF_STATUS_NM, 0, NULL, 0);
-    want_report(1, 0, SSCF_REPORT_UPPER_ALN, 0);
-    want_bare_signal(1, SSCF_SIGNAL_SET_T2);
+    want_start(1, 0);
     STEP(SSCF_ACCEPTED);
 
     /* the peer is not ready yet */
@@ -523,10 +565,7 @@ static void forgets_by_confirm(void)
         stops_proving(7);
         number_is(1);
         put_bare_event(1, SSCF_EVENT_START);
-        want_link(1, SSCF_STATE_2_2_2, 0, T2, 7);
-        want_signal(1, SSCF_SIGNAL_ESTABLISH_REQUEST, SSCF_STATUS_NM, 0, NULL, 0);
-        want_report(1, 0, SSCF_REPORT_UPPER_ALN, 0);
-        want_bare_signal(1, SSCF_SIGNAL_SET_T2);
+        want_start(1, 7);
         STEP(SSCF_ACCEPTED);
 
         put_event(1, SSCF_EVENT_ESTABLISH_CONFIRM, field, 0, NULL, 0);
@@ -949,6 +988,385 @@ static void several_wrong(void)
 }
 
 /*
+ * Request 2026-04: a burst of events end to end. A START writes 36 octets of signals, so three of
+ * them for links 0, 1 and 2 show how far a burst came.
+ */
+
+static void add_start(unsigned link)
+{
+    add_bare_event(link, SSCF_EVENT_START);
+}
+
+/* The number that the event taken as so many, counted from 0, has in the list. */
+static void want_number(size_t place, uint32_t number)
+{
+    want.list[place] = number;
+}
+
+static void want_taken(unsigned starts)
+{
+    unsigned link;
+
+    want_nothing();
+    for (link = 0; link < starts; link++) {
+        want_start(link, 0);
+        want_number(link, SSCF_ACCEPTED);
+    }
+}
+
+static void set_up_starts(unsigned starts)
+{
+    unsigned link;
+
+    set_up(3);
+    out_octets = sizeof now.out;
+    for (link = 0; link < starts; link++)
+        add_start(link);
+}
+
+/* No events: nothing is asked for, neither room nor a list. */
+static void burst_of_none(void)
+{
+    static const size_t rooms[] = {0, 4191, 4192};
+    size_t i;
+
+    for (i = 0; i < 3; i++) {
+        turn = i;
+        set_up(1);
+        want_nothing();
+        out_octets = rooms[i];
+        BURST(0, 0, 0, 0);
+        places = 0;
+        BURST(0, 0, 0, 0);
+    }
+}
+
+/* The run of document 01 once more, its two events in one burst. */
+static void burst_into_service(void)
+{
+    set_up(1);
+    put_link(0, 6, 1, 2 + 4, 1, 1000);
+    out_octets = 28 + 4192;
+    places = 2;
+    add_bare_event(0, 50);
+    add_bare_event(0, 50);
+    want_nothing();
+    want_number(0, 0);
+    want_number(1, 0);
+    want_link(0, 8, 1, 0, 0);
+    want_signal(0, 19, 0, 0, nm_unit, 4);
+    want_signal(0, 50, 0, 0, NULL, 0);
+    want_signal(0, 33, 0, 0, NULL, 0);
+    want_signal(0, 19, 0, 0, ins_unit, 4);
+    want_signal(0, 34, 0, three(0, 2, 0), NULL, 0);
+    want_signal(0, 4, 0, 0, NULL, 0);
+    want_signal(0, 57, 0, 0, NULL, 0);
+    CHECK(want_octets == 92 && want_signals == 7);
+    BURST(0, 0, 2, 24);
+}
+
+/* Two links of three, whose events come in turn: up, the first proving unit out and one in. */
+static void burst_restart(void)
+{
+    unsigned link;
+
+    set_up(3);
+    out_octets = sizeof now.out;
+    for (link = 0; link <= 2; link += 2)
+        add_start(link);
+    for (link = 0; link <= 2; link += 2)
+        add_event(link, SSCF_EVENT_ESTABLISH_CONFIRM, SSCF_STATUS_NM, 0, NULL, 0);
+    for (link = 0; link <= 2; link += 2)
+        add_bare_event(link, SSCF_EVENT_T3_EXPIRED);
+    for (link = 0; link <= 2; link += 2)
+        add_event(link, SSCF_EVENT_DATA, 0, 500 + link, nm_unit, sizeof nm_unit);
+
+    want_nothing();
+    memset(want.list, 0, 8 * sizeof *want.list);
+    for (link = 0; link <= 2; link += 2)
+        want_start(link, 0);
+    for (link = 0; link <= 2; link += 2) {
+        want_bare_signal(link, SSCF_SIGNAL_START_PROVING);
+        want_bare_signal(link, SSCF_SIGNAL_SET_T3);
+    }
+    for (link = 0; link <= 2; link += 2) {
+        want_signal(link, SSCF_SIGNAL_DATA_REQUEST, 0, 0, nm_unit, sizeof nm_unit);
+        want_bare_signal(link, SSCF_SIGNAL_SET_T3);
+        want_link(link, SSCF_STATE_2_10_3, 0, T2 + T3, 999);
+        want_bsnt(link, 500 + link);
+    }
+    CHECK(want_octets == 176 && want_signals == 14);
+    BURST(0, 0, 8, 6 * 12 + 2 * 16);
+}
+
+/* An event that is refused, by each number that there is for one, is passed over. */
+static void burst_refusals(void)
+{
+    unsigned number;
+
+    set_up(3);
+    out_octets = sizeof now.out;
+    now.table[2 * SSCF_LINK_OCTETS] = 'X';
+    add_start(0);
+    add_bare_event(1, 51);
+    add_event(1, SSCF_EVENT_START, 1, 0, NULL, 0);
+    add_start(3);
+    add_start(2);
+    add_bare_event(1, SSCF_EVENT_T3_EXPIRED);
+    add_bare_event(1, SSCF_EVENT_STOP);
+    add_start(1);
+
+    want_nothing();
+    want_start(0, 0);
+    want_start(1, 0);
+    want_number(0, 0);
+    for (number = 3; number <= 8; number++)
+        want_number(number - 2, number);
+    want_number(7, 0);
+    BURST(0, 0, 8, 8 * 12);
+}
+
+/* Refusal 1, which comes before all else. */
+static void burst_tables(void)
+{
+    static const size_t tables[] = {0, 17, 4112};
+    size_t i;
+
+    for (i = 0; i < 3; i++) {
+        turn = i;
+        set_up(SSCF_LINKS_MAX);
+        table_octets = tables[i];
+        want_nothing();
+        BURST(1, 0, 0, 0);
+        add_start(0);
+        add_start(1);
+        want_nothing();
+        BURST(1, 0, 0, 0);
+        places = 1;
+        BURST(1, 0, 0, 0);
+        out_octets = 4191;
+        BURST(1, 0, 0, 0);
+        now.event[SSCF_HEAD_AT_ZERO] = 1;
+        want_nothing();
+        BURST(1, 0, 0, 0);
+    }
+}
+
+/* Refusal 13, whatever room there is: also where the list would do for the events that have it. */
+static void burst_lists(void)
+{
+    size_t too_few;
+
+    CHECK(SSCF_REFUSED_LIST == 13);
+    for (too_few = 0; too_few < 3; too_few++) {
+        turn = too_few;
+        set_up_starts(3);
+        places = too_few;
+        want_nothing();
+        BURST(13, 0, 0, 0);
+        out_octets = 4192;
+        BURST(13, 0, 0, 0);
+        out_octets = 0;
+        BURST(13, 0, 0, 0);
+    }
+    set_up_starts(3);
+    places = 3;
+    want_taken(3);
+    BURST(0, 0, 3, 36);
+
+    /* an event that is refused has a number too */
+    set_up(1);
+    add_bare_event(0, 51);
+    places = 0;
+    want_nothing();
+    BURST(13, 0, 0, 0);
+}
+
+/* A list need not be longer for what stands behind a broken frame, nor for that frame. */
+static void burst_list_before_a_broken_frame(void)
+{
+    size_t sound;
+
+    for (sound = 0; sound < 3; sound++) {
+        turn = sound;
+        set_up_starts(3);
+        now.event[12 * sound + SSCF_HEAD_AT_ZERO] = 1;
+        want_nothing();
+        if (sound > 0) {
+            places = sound - 1;
+            BURST(13, 0, 0, 0);
+        }
+        places = sound;
+        want_taken((unsigned)sound);
+        BURST(0, 2, sound, 12 * sound);
+    }
+}
+
+/* Frames that are broken, in each way there is. Mended, they are a START. */
+static const struct {
+    uint16_t octets; /* there are of it; behind fewer than 12 stands nothing */
+    char mark[3];
+    uint8_t zero;
+    uint16_t length; /* of its message, as its head says */
+    uint16_t past;   /* the end: by so many octets, where it is not 0 */
+} broken_starts[] = {
+    {1, "EV", 0, 0, 0},       {2, "EV", 0, 0, 0},      {11, "EV", 0, 0, 0},
+    {12, "SG", 0, 0, 0},      {12, "LK", 0, 0, 0},     {12, "EG", 0, 0, 0},
+    {12, "SV", 0, 0, 0},      {12, "VE", 0, 0, 0},     {12, "ev", 0, 0, 0},
+    {12, "EV", 1, 0, 0},      {12, "EV", 0x80, 0, 0},  {12, "EV", 255, 0, 0},
+    {12 + 4097, "EV", 0, 4097, 0},                     {12, "EV", 0, 4097, 0},
+    {12, "EV", 0, 0xffff, 0}, {12, "EV", 0, 0, 1},     {12, "EV", 0, 0, 12},
+    {12, "EV", 0, 0, 4000},   {12 + 5, "EV", 0, 0, 1}, {12 + 5, "SG", 1, 0xffff, 0}
+};
+
+/* Such a frame in the place of one of the three STARTs. */
+static void set_up_broken_start(unsigned which, unsigned sound)
+{
+    const size_t octets = broken_starts[which].octets, past = broken_starts[which].past;
+    uint8_t *frame = now.event + 12 * sound;
+    unsigned link;
+
+    set_up_starts(sound + 1);
+    event_octets = 12 * sound + octets;
+    for (link = sound + 1; link < 3 && octets >= 12; link++)
+        add_start(link);
+    memcpy(frame + SSCF_HEAD_AT_MARK, broken_starts[which].mark, 2);
+    frame[SSCF_HEAD_AT_ZERO] = broken_starts[which].zero;
+    sscf_put_16(frame + SSCF_HEAD_AT_LENGTH,
+                past == 0 ? broken_starts[which].length
+                          : (uint32_t)(event_octets - 12 * sound - 12 + past));
+}
+
+/* First, in the middle and last: it ends the burst, and what was done before it stands. */
+static void burst_broken_frames(void)
+{
+    unsigned i, sound;
+
+    for (i = 0; i < sizeof broken_starts / sizeof *broken_starts; i++)
+        for (sound = 0; sound < 3; sound++) {
+            turn = 10 * i + sound;
+            set_up_broken_start(i, sound);
+            want_taken(sound);
+            BURST(0, 2, sound, 12 * sound);
+        }
+}
+
+/* A frame is looked at before the room, and no frame behind an event that has none. */
+static void burst_broken_frames_without_room(void)
+{
+    size_t sound;
+
+    for (sound = 0; sound < 3; sound++) {
+        turn = sound;
+        set_up_starts(3);
+        memcpy(now.event + 12 * sound, "SG", 2);
+        out_octets = 36 * sound + 4191;
+        want_taken((unsigned)sound);
+        BURST(0, 2, sound, 12 * sound);
+
+        set_up_starts(3);
+        event_octets += 11;
+        out_octets = 36 * sound + 4191;
+        want_taken((unsigned)sound);
+        BURST(0, 0, sound, 12 * sound);
+    }
+}
+
+/* Without 4,192 octets no event is taken: not one that writes nothing, nor one that is refused. */
+static void burst_without_room(void)
+{
+    static const uint8_t codes[] = {SSCF_EVENT_START, SSCF_EVENT_CONTINUE, SSCF_EVENT_STOP, 51};
+    static const uint32_t numbers[] = {0, 0, 8, 3};
+    size_t i;
+
+    for (i = 0; i < sizeof codes; i++) {
+        turn = i;
+        set_up(1);
+        add_bare_event(0, codes[i]);
+        add_start(1);
+        want_nothing();
+        out_octets = 0;
+        BURST(0, 0, 0, 0);
+        out_octets = 4191;
+        BURST(0, 0, 0, 0);
+
+        out_octets = 4192;
+        if (i == 0)
+            want_start(0, 0);
+        want_number(0, numbers[i]);
+        if (i != 0) /* nothing was written, and so there is room for the next, of no such link */
+            want_number(1, SSCF_REFUSED_LINK);
+        BURST(0, 0, i == 0 ? 1 : 2, i == 0 ? 12 : 24);
+    }
+}
+
+/* Room for exactly one, two and three events, and an octet less. */
+static void burst_rooms(void)
+{
+    unsigned starts;
+
+    for (starts = 1; starts <= 3; starts++) {
+        turn = starts;
+        set_up_starts(3);
+        out_octets = 36 * (starts - 1) + 4192;
+        want_taken(starts);
+        BURST(0, 0, starts, 12 * starts);
+
+        set_up_starts(3);
+        out_octets = 36 * (starts - 1) + 4191;
+        want_taken(starts - 1);
+        BURST(0, 0, starts - 1, 12 * (starts - 1));
+    }
+}
+
+/* A message as long as it may be; and where the room ended a burst, the next goes on. */
+static void burst_goes_on(void)
+{
+    set_up(2);
+    put_link(0, SSCF_STATE_3_10_5, 0, 0, 0, 1000);
+    add_event(0, SSCF_EVENT_DATA, 0, 7, message, 4096);
+    add_start(1);
+    want_nothing();
+    want_number(0, 0);
+    want_bsnt(0, 7);
+    want_signal(0, SSCF_SIGNAL_RECEIVED_MESSAGE, 0, 0, message, 4096);
+    BURST(0, 0, 1, 12 + 4096);
+
+    memmove(now.event, now.event + 12 + 4096, 12);
+    event_octets = 12;
+    want_nothing();
+    want_number(0, 0);
+    want_start(1, 0);
+    BURST(0, 0, 1, 12);
+}
+
+/* A burst of one event is its single call: every code in every state, with a message or none. */
+static void bursts_of_one(void)
+{
+    static struct memory before;
+    unsigned code, state, length;
+
+    for (code = 0; code < 256; code++)
+        for (state = 1; state <= 8; state++)
+            for (length = 0; length <= 5; length += 5) {
+                struct sscf_answer answer;
+
+                turn = 100 * code + 10 * state + length;
+                set_up(1);
+                put_link(0, state, 0, T1 + T2 + T3, state & 1, 1);
+                add_event(0, code, 0, 0, message, length);
+                before = now;
+                answer = sscf_step(now.table, 16, now.event, event_octets, now.out, out_octets);
+                want_nothing();
+                want_number(0, answer.refusal);
+                want_octets = answer.octets;
+                want_signals = answer.signals;
+                now = before;
+                BURST(0, 0, 1, event_octets);
+            }
+}
+
+/*
  * Changeover messages: Q.2210's figure 3, with figure 2 and clause 9.6 for the order of octets and
  * bits. They are written to `out`, and read from `event`.
  */
@@ -1203,7 +1621,11 @@ int main(void)
         into_service,  one_life,       messages,       timer_orders,  forgets_by_confirm,
         forgets_by_response, haste,
         broken_lengths, broken_frames, broken_fields,  broken_records, states,
-        crossings,     several_wrong,  changeovers,    changeover_bits, changeover_widths,
+        crossings,     several_wrong,  burst_of_none,  burst_into_service, burst_restart,
+        burst_refusals, burst_tables,  burst_lists,    burst_list_before_a_broken_frame,
+        burst_broken_frames, burst_broken_frames_without_room, burst_without_room, burst_rooms,
+        burst_goes_on, bursts_of_one,
+        changeovers,    changeover_bits, changeover_widths,
         changeover_lengths, changeover_headings_and_services, every_changeover_octet,
         changeover_several_wrong
     };
