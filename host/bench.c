@@ -1,7 +1,8 @@
 /*
  * What a call costs. Three machines make the same calls, an empty one, this library and the second
- * machine; a row of the table is one case over and over, or several kinds of step mixed. The script
- * host/bench makes the table, of what this program says when it is told to
+ * machine; a row of the table is one case over and over, or several kinds of step mixed, or many
+ * events as one burst and as single calls. The script host/bench makes the table, of what this
+ * program says when it is told to
  *
  *     check   see that both machines answer every call as they should, and name the rows
  *     count   make the calls between marks, for a counter of instructions
@@ -22,11 +23,18 @@ void bench_mark(void);
 struct sscf_answer empty_step(uint8_t *table, size_t table_octets,
                               const uint8_t *event, size_t event_octets,
                               uint8_t *out, size_t out_octets);
+struct sscf_burst_answer empty_burst(uint8_t *table, size_t table_octets,
+                                     const uint8_t *events, size_t events_octets,
+                                     uint8_t *out, size_t out_octets,
+                                     uint32_t *refusals, size_t refusals_count);
 uint32_t empty_write(uint8_t *out, size_t out_octets, struct sscf_changeover message);
 struct sscf_changeover_answer empty_read(const uint8_t *octets, size_t count);
 
-/* What is called: sscf_step, sscf_changeover_write or sscf_changeover_read. */
-enum { STEP, WRITE, READ, CALLS };
+/*
+ * What is called: sscf_step, sscf_burst, sscf_step for each event of a burst, sscf_changeover_write
+ * or sscf_changeover_read.
+ */
+enum { STEP, BURST, SINGLES, WRITE, READ, CALLS };
 
 /*
  * The cases of a step: a link, an event for it, and the answer that shows that it is the case
@@ -115,14 +123,15 @@ static const struct changeover_case changeovers[] = {
 enum { CHANGEOVERS = sizeof changeovers / sizeof *changeovers };
 
 /*
- * The rows: each case of a step that is one alone, behind them all that are mixed, and then the
- * changeover calls. The mixed kinds are counted and timed over the whole of their order. Of equal
- * calls fewer are enough, and the shorter a stretch the likelier that a busy machine leaves it in
- * peace.
+ * The rows: each case of a step that is one alone, behind them all that are mixed, then a burst and
+ * its single calls, and then the changeover calls. The mixed kinds are counted and timed over the
+ * whole of their order. Of equal calls fewer are enough, and the shorter a stretch the likelier
+ * that a busy machine leaves it in peace.
  */
 
 enum { ORDER = 8192 }; /* see below; a multiple of the links of each table */
 enum { COUNTED = 100, TIMED = 2048 };
+enum { LINKS = 25, EVENTS = 4 * LINKS }; /* of a burst */
 enum { EMPTY, OURS, SECOND, MACHINES };
 
 static const unsigned tables[] = {1, SSCF_LINKS_MAX}; /* their links */
@@ -133,25 +142,28 @@ struct row {
     const struct bench_case *kinds[CASES];    /* of a step */
     const struct changeover_case *changeover; /* of another call */
     unsigned many;                            /* kinds */
+    unsigned events;                          /* that a call takes, 1 but for a burst */
     unsigned tables;                          /* that it is counted on, the last ones */
     unsigned counted, timed;                  /* calls in a stretch */
     double least[MACHINES];                   /* nanoseconds of a call */
 };
 
-static struct row rows[CASES + 1 + CHANGEOVERS];
+static struct row rows[CASES + 1 + 2 + CHANGEOVERS];
 static size_t rows_made;
 
 /*
  * The mixed kinds, which are many calls for a slow counter, are counted on the large table only. A
- * changeover call has none.
+ * burst has that one, and a changeover call none.
  */
 static void make_rows(void)
 {
-    struct row mixed = {.call = STEP, .tables = 1, .counted = ORDER, .timed = ORDER};
+    struct row mixed = {.call = STEP, .events = 1, .tables = 1, .counted = ORDER, .timed = ORDER};
+    struct row burst = {.call = BURST, .many = 1, .events = EVENTS,
+                        .tables = 1, .counted = COUNTED / 10, .timed = TIMED / EVENTS};
     size_t i;
 
     for (i = 0; i < CASES; i++) {
-        struct row alone = {.call = STEP, .kinds = {&cases[i]}, .many = 1,
+        struct row alone = {.call = STEP, .kinds = {&cases[i]}, .many = 1, .events = 1,
                             .tables = TABLES, .counted = COUNTED, .timed = TIMED};
 
         if (cases[i].rows & ALONE)
@@ -160,9 +172,12 @@ static void make_rows(void)
             mixed.kinds[mixed.many++] = &cases[i];
     }
     rows[rows_made++] = mixed;
+    rows[rows_made++] = burst;
+    burst.call = SINGLES;
+    rows[rows_made++] = burst;
     for (i = 0; i < CHANGEOVERS; i++) {
         struct row alone = {.call = changeovers[i].call, .changeover = &changeovers[i], .many = 1,
-                            .tables = 1, .counted = COUNTED, .timed = TIMED};
+                            .events = 1, .tables = 1, .counted = COUNTED, .timed = TIMED};
 
         rows[rows_made++] = alone;
     }
@@ -275,6 +290,63 @@ static int step_agreed(const struct row *row, unsigned call)
            memcmp(record, our_record, sizeof our_record) == 0;
 }
 
+/*
+ * The burst, a restart: START for each of some links that are no neighbours, then for each of them
+ * the confirm, then the first expiry of T3, then a proving unit of the peer, all end to end. The
+ * list is as long as the events are many, and each turn finds the table put back. A link's four
+ * events make three signals, two, two and none; one of these carries a unit.
+ */
+
+enum { LINK_EVENTS = 4 * SSCF_HEAD_OCTETS + SSCF_UNIT_OCTETS, LINK_SIGNALS = 3 + 2 + 2 };
+enum { LINK_OUT = LINK_SIGNALS * SSCF_HEAD_OCTETS + SSCF_UNIT_OCTETS };
+
+static uint8_t events[LINKS * LINK_EVENTS], fresh[sizeof table];
+static uint8_t burst_out[LINKS * LINK_OUT + SSCF_OUTPUT_OCTETS];
+static uint32_t refusals[EVENTS];
+static struct sscf_burst_answer latest;
+
+static void set_up_burst(void)
+{
+    static const uint8_t unit[SSCF_UNIT_OCTETS] = {0, 0, 0, SSCF_STATUS_NM};
+    static const struct {
+        uint8_t code, parameter, length;
+    } rounds[] = {
+        {SSCF_EVENT_START, 0, 0},
+        {SSCF_EVENT_ESTABLISH_CONFIRM, SSCF_STATUS_NM, 0},
+        {SSCF_EVENT_T3_EXPIRED, 0, 0},
+        {SSCF_EVENT_DATA, 0, sizeof unit},
+    };
+    size_t i, at = 0;
+    uint32_t link;
+
+    table_octets = sizeof table;
+    sscf_fresh(fresh, sizeof fresh, SSCF_N1_DEFAULT);
+    for (i = 0; i < sizeof rounds / sizeof *rounds; i++)
+        for (link = 0; link < LINKS; link++)
+            at += sscf_put_event(events + at, sizeof events - at, SSCF_LINKS_MAX / LINKS * link,
+                                 rounds[i].code, rounds[i].parameter, 0, unit, rounds[i].length);
+}
+
+/* The answer is kept whole, to be looked at. */
+static inline uint32_t keep(struct sscf_burst_answer answer)
+{
+    latest = answer;
+    return answer.refusal;
+}
+
+/* Whether a burst, or its single calls, did what is meant: every event was accepted. */
+static int burst_done(void)
+{
+    size_t i;
+
+    for (i = 0; i < EVENTS; i++)
+        if (refusals[i] != SSCF_ACCEPTED)
+            return 0;
+    return latest.refusal == SSCF_ACCEPTED && latest.broken == 0 && latest.taken == EVENTS &&
+           latest.at == sizeof events && latest.octets == LINKS * LINK_OUT &&
+           latest.signals == LINKS * LINK_SIGNALS;
+}
+
 /* The changeover calls of a row, all of one case. */
 
 static const struct changeover_case *changeover;
@@ -345,6 +417,43 @@ static int read_agreed(void)
     }                                                                                          \
     TURNS(name, name##_turn)
 
+#define BURSTS(name, type, burst)                                                              \
+    static inline uint32_t name##_turn(unsigned call)                                          \
+    {                                                                                          \
+        type all;                                                                              \
+                                                                                               \
+        (void)call;                                                                            \
+        memcpy(table, fresh, sizeof table);                                                    \
+        all = burst(table, table_octets, events, sizeof events, burst_out, sizeof burst_out,   \
+                    refusals, EVENTS);                                                         \
+        return keep((struct sscf_burst_answer){all.refusal, all.broken, all.taken, all.at,     \
+                                               all.octets, all.signals});                      \
+    }                                                                                          \
+    TURNS(name, name##_turn)
+
+/* As a host goes from event to event. */
+#define SINGLE_CALLS(name, type, step)                                                         \
+    static inline uint32_t name##_turn(unsigned call)                                          \
+    {                                                                                          \
+        struct sscf_burst_answer all = {0, 0, 0, 0, 0, 0};                                     \
+                                                                                               \
+        (void)call;                                                                            \
+        memcpy(table, fresh, sizeof table);                                                    \
+        while (all.at < sizeof events) {                                                       \
+            const uint8_t *event = events + all.at;                                            \
+            size_t octets = SSCF_HEAD_OCTETS + sscf_get_16(event + SSCF_HEAD_AT_LENGTH);       \
+            type one = step(table, table_octets, event, octets, burst_out + all.octets,        \
+                            sizeof burst_out - all.octets);                                    \
+                                                                                               \
+            refusals[all.taken++] = one.refusal;                                               \
+            all.at += octets;                                                                  \
+            all.octets += one.octets;                                                          \
+            all.signals += one.signals;                                                        \
+        }                                                                                      \
+        return keep(all);                                                                      \
+    }                                                                                          \
+    TURNS(name, name##_turn)
+
 #define WRITES(name, type, write)                                                              \
     static inline uint32_t name##_turn(unsigned call)                                          \
     {                                                                                          \
@@ -368,6 +477,12 @@ static int read_agreed(void)
 STEPS(empty_steps, struct sscf_answer, empty_step)
 STEPS(our_steps, struct sscf_answer, sscf_step)
 STEPS(second_steps, struct second_answer, second_step)
+BURSTS(empty_bursts, struct sscf_burst_answer, empty_burst)
+BURSTS(our_bursts, struct sscf_burst_answer, sscf_burst)
+BURSTS(second_bursts, struct second_burst_answer, second_burst)
+SINGLE_CALLS(empty_singles, struct sscf_answer, empty_step)
+SINGLE_CALLS(our_singles, struct sscf_answer, sscf_step)
+SINGLE_CALLS(second_singles, struct second_answer, second_step)
 WRITES(empty_writes, struct sscf_changeover, empty_write)
 WRITES(our_writes, struct sscf_changeover, sscf_changeover_write)
 WRITES(second_writes, struct second_changeover, second_changeover_write)
@@ -377,6 +492,8 @@ READS(second_reads, struct second_changeover_answer, second_changeover_read)
 
 static uint32_t (*volatile machines[CALLS][MACHINES])(unsigned) = {
     {empty_steps, our_steps, second_steps},
+    {empty_bursts, our_bursts, second_bursts},
+    {empty_singles, our_singles, second_singles},
     {empty_writes, our_writes, second_writes},
     {empty_reads, our_reads, second_reads},
 };
@@ -387,23 +504,57 @@ static void set_up(const struct row *row, unsigned links)
 {
     if (row->call == STEP)
         set_up_steps(row, links);
+    else if (row->call == BURST || row->call == SINGLES)
+        set_up_burst();
     else
         changeover = row->changeover;
+}
+
+/* Whether both machines did, by bursts and by single calls, and the same in every octet. */
+static int burst_agreed(unsigned call)
+{
+    static uint8_t first_table[sizeof table], first_out[sizeof burst_out];
+    size_t k;
+
+    for (k = OURS; k <= SECOND; k++) {
+        memset(burst_out, 0, sizeof burst_out);
+        memset(refusals, 0xff, sizeof refusals);
+        machines[call][k](1);
+        if (!burst_done())
+            return 0;
+        if (call == BURST && k == OURS) { /* before all others */
+            memcpy(first_table, table, sizeof table);
+            memcpy(first_out, burst_out, sizeof burst_out);
+        }
+        if (memcmp(table, first_table, sizeof table) != 0 ||
+            memcmp(burst_out, first_out, sizeof burst_out) != 0)
+            return 0;
+    }
+    return 1;
 }
 
 static int agreed(const struct row *row, unsigned call)
 {
     if (row->call == STEP)
         return step_agreed(row, call);
+    if (row->call == BURST || row->call == SINGLES)
+        return burst_agreed(row->call);
     return row->call == WRITE ? write_agreed() : read_agreed();
 }
 
 static const char *title(const struct row *row, unsigned call)
 {
-    return row->call == STEP ? row->kinds[order[call]]->title : row->changeover->title;
+    if (row->call == STEP)
+        return row->kinds[order[call]]->title;
+    if (row->call == BURST)
+        return "a burst of 100 events";
+    return row->call == SINGLES ? "its 100 single calls" : row->changeover->title;
 }
 
-/* A line for each row: the tables it is counted on, its kinds, the calls counted, the title. */
+/*
+ * A line for each row: the tables it is counted on, its kinds, the calls counted, the events that a
+ * call takes, the title.
+ */
 static int check(void)
 {
     size_t i, j;
@@ -414,14 +565,14 @@ static int check(void)
 
         for (j = 0; j < TABLES; j++) {
             set_up(row, tables[j]);
-            for (call = 0; call < ORDER; call++) {
+            for (call = 0; call < ORDER / row->events; call++) {
                 if (!agreed(row, call)) {
                     printf("%s: not answered as it should be\n", title(row, call));
                     return 1;
                 }
             }
         }
-        printf("%u %u %u ", row->tables, row->many, row->counted);
+        printf("%u %u %u %u ", row->tables, row->many, row->counted, row->events);
         if (row->many == 1)
             printf("%s\n", title(row, 0));
         else
@@ -488,9 +639,10 @@ static void time_round(struct row *row, unsigned round)
 }
 
 /*
- * A line for each row: nanoseconds of a call, ours and the second's. All that a busy machine does
- * to a call makes it longer, so the least of many rounds is nearest to what it takes by itself; and
- * the rounds of a row are spread over the whole run, so that no one busy spell meets them all.
+ * A line for each row: nanoseconds of a call, ours and the second's, and what was taken off them.
+ * All that a busy machine does to a call makes it longer, so the least of many rounds is nearest to
+ * what it takes by itself; and the rounds of a row are spread over the whole run, so that no one
+ * busy spell meets them all.
  */
 static int time_all(void)
 {
@@ -504,7 +656,8 @@ static int time_all(void)
     for (i = 0; i < rows_made; i++) {
         const double *least = rows[i].least;
 
-        printf("%.2f %.2f\n", least[OURS] - least[EMPTY], least[SECOND] - least[EMPTY]);
+        printf("%.2f %.2f %.2f\n", least[OURS] - least[EMPTY], least[SECOND] - least[EMPTY],
+               least[EMPTY]);
     }
     return 0;
 }

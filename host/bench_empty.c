@@ -9,6 +9,10 @@ void bench_mark(void);
 struct sscf_answer empty_step(uint8_t *table, size_t table_octets,
                               const uint8_t *event, size_t event_octets,
                               uint8_t *out, size_t out_octets);
+struct sscf_burst_answer empty_burst(uint8_t *table, size_t table_octets,
+                                     const uint8_t *events, size_t events_octets,
+                                     uint8_t *out, size_t out_octets,
+                                     uint32_t *refusals, size_t refusals_count);
 uint32_t empty_write(uint8_t *out, size_t out_octets, struct sscf_changeover message);
 struct sscf_changeover_answer empty_read(const uint8_t *octets, size_t count);
 
@@ -23,6 +27,18 @@ struct sscf_answer empty_step(uint8_t *table, size_t table_octets,
     struct sscf_answer nothing = {SSCF_ACCEPTED, 0, 0};
 
     (void)table, (void)table_octets, (void)event, (void)event_octets, (void)out, (void)out_octets;
+    return nothing;
+}
+
+struct sscf_burst_answer empty_burst(uint8_t *table, size_t table_octets,
+                                     const uint8_t *events, size_t events_octets,
+                                     uint8_t *out, size_t out_octets,
+                                     uint32_t *refusals, size_t refusals_count)
+{
+    struct sscf_burst_answer nothing = {SSCF_ACCEPTED, 0, 0, 0, 0, 0};
+
+    (void)table, (void)table_octets, (void)events, (void)events_octets, (void)out, (void)out_octets;
+    (void)refusals, (void)refusals_count;
     return nothing;
 }
 
