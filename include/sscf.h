@@ -5,13 +5,15 @@
  *
  * The SSCF stands between the user of a signalling link (MTP level 3) and SSCOP. It brings the link
  * into service and takes it out again: connection, proving, and the exchange of INS units with the
- * peer. This library is the SSCF for a table of 1 to 256 links, in two calls:
+ * peer. This library is the SSCF for a table of 1 to 256 links, in three calls:
  *
  *     sscf_fresh    makes a table in which every link is out of service
  *     sscf_step     takes one event for one link, brings that link's record in the table up to
  *                   date, and writes the signals that follow from the event
+ *     sscf_burst    takes many events at once, as at a restart: what sscf_step would do of each,
+ *                   one after the other, in one call
  *
- * A third, sscf_version, tells the version. For the layer above there are two more, which know of
+ * A fourth, sscf_version, tells the version. For the layer above there are two more, which know of
  * no table: sscf_changeover_write and sscf_changeover_read, at the end of this header.
  *
  * The host hands in as an event whatever the link's user, SSCOP, layer management or a timer has
@@ -25,8 +27,8 @@
  * proved of the code, for every table, every event and every message.
  *
  * Of the C library it needs memmove and nothing else; a later version may also need memcpy, memset,
- * memcmp or bcmp. A step takes at most 256 octets of stack, memmove's own not counted, the other
- * calls their return address alone.
+ * memcmp or bcmp. A step or a burst takes at most 256 octets of stack, memmove's own not counted,
+ * the other calls their return address alone.
  *
  * HOW A LINK COMES INTO SERVICE
  *
@@ -42,7 +44,7 @@
  * OUT_OF_SERVICE; its own STOP, once accepted, takes the link out of service with no
  * OUT_OF_SERVICE to follow.
  *
- * It is never in service too early. Take a table that sscf_fresh made and that nothing but the two
+ * It is never in service too early. Take a table that sscf_fresh made and that nothing but the three
  * calls has written into since; each was lent the whole table, as its table, and no call had any of
  * it as room for output. Where sscf_fresh makes it anew, all that was seen of it before counts no
  * more. After every sequence of such calls this is proved: a link is in service
@@ -94,8 +96,8 @@
  * - Each pointer is good for as many octets as the length beside it says, the table and the output
  *   for writing too. A length of 0 may come with any pointer, NULL among them: nothing is read or
  *   written through it.
- * - The table, the event and the output do not overlap.
- * - Nobody else touches the three buffers during a call. There is no locking and no global state:
+ * - The table, the event or the events, the output and a burst's list do not overlap.
+ * - Nobody else touches these buffers during a call. There is no locking and no global state:
  *   calls on one table come one at a time, calls on different tables may run side by side.
  *
  * For the links to work as Q.2140 has it, the host also does the following.
@@ -114,15 +116,15 @@
  * - SSCOP gives no RELEASE_CONFIRM for a RELEASE_REQUEST in answer to ESTABLISH_INDICATION: this
  *   turns the peer's call down, and the link, in state 1 or 3, awaits none. Later, in state 2 or 5,
  *   it would be taken for another's.
- * - Nothing but sscf_fresh and sscf_step writes into the table, and they only as their table. Each
- *   call is lent the whole of it, from the first record to the last, and no octet of it lies in the
- *   out of any call, one on another table among them. A record that came there in another way is
+ * - Nothing but sscf_fresh, sscf_step and sscf_burst writes into the table, and they only as their
+ *   table. Each call is lent the whole of it, from the first record to the last, and no octet of it
+ *   lies in the out or the refusals of any call, one on another table among them. A record that came there in another way is
  *   believed if it is well-formed, whatever it says.
  * - Q.2140 wants no link to enter proving during local congestion. On START_PROVING for a link
  *   that is congested, hand in CONGESTION for it (again): this gives the connection up, and the
  *   link tries again after T1.
  *
- * Where the stack is short: a step takes 136 octets, by the archive's listing. glibc's memmove
+ * Where the stack is short: a step takes 168 octets and a burst 248, by the listing. glibc's memmove
  * takes none, but where it is bound lazily its first call runs the dynamic loader, which took
  * 3 KB with 0.1.1, on a painted stack.
  */
@@ -139,8 +141,8 @@ extern "C" {
 /* Up to 0.2.0 a number of BSNT was kept through later connections too. A table that such a version
  * has written is taken as it is: there BSNT may be older than the latest connection, until the next
  * DATA is accepted or the next connection comes up. */
-#define SSCF_VERSION "0.3.0"
-#define SSCF_VERSION_NUMBER 3000 /* 1,000,000 x 0 + 1,000 x 3 + 0 */
+#define SSCF_VERSION "0.4.0"
+#define SSCF_VERSION_NUMBER 4000 /* 1,000,000 x 0 + 1,000 x 4 + 0 */
 
 /* LIMITS */
 
@@ -410,9 +412,9 @@ enum sscf_report_reason { /* octet 8 */
  * REFUSALS
  *
  * Each is given exactly where it is listed, and the checks are made in this order: where several
- * things are wrong the lowest number is answered.
+ * things are wrong the lowest number is answered. 13 is of a burst alone, see there.
  *
- * 1 to 6 and 9 are faults of the host: a wrong length, an event written wrong, a record that
+ * 1 to 6, 9 and 13 are faults of the host: a wrong length, an event written wrong, a record that
  * something else wrote into. The same call is refused again, so they are to be logged and mended.
  * After 6 the link is lost. A copy of its record brings it back if it was taken after the last
  * event that was accepted for the link; an older one may say in service of a connection that is
@@ -457,7 +459,8 @@ enum sscf_refusal {
     SSCF_REFUSED_RECORD = 6, /* that link's record ill-formed */
     SSCF_REFUSED_TIMER = 7,  /* expiry of a timer that is not marked running */
     SSCF_REFUSED_STATE = 8,  /* the event is Illegal in the link's state */
-    SSCF_REFUSED_OUTPUT = 9  /* output shorter than 4,192 octets, whatever the event would write */
+    SSCF_REFUSED_OUTPUT = 9, /* output shorter than 4,192 octets, whatever the event would write */
+    SSCF_REFUSED_LIST = 13   /* of a burst as a whole: its list is too short */
 };
 
 /*
@@ -492,6 +495,74 @@ struct sscf_answer {
 struct sscf_answer sscf_step(uint8_t *table, size_t table_octets,
                              const uint8_t *event, size_t event_octets,
                              uint8_t *out, size_t out_octets);
+
+/*
+ * A BURST
+ *
+ * Takes events that stand end to end in one buffer, for any links of the table. Each is done as
+ * sscf_step would do it, one after the other: on the table that the one before left, with the
+ * output that it left. So the signals of all stand in out, one behind the other in the order of
+ * their events, and refusals[n] is what sscf_step would have answered for the n-th event: 0 if it
+ * was accepted. An event that is refused is passed over, and the burst goes on with the next.
+ *
+ * Before anything is written the burst as a whole may be refused: as SSCF_REFUSED_TABLE, or else as
+ * SSCF_REFUSED_LIST if refusals is shorter than there are sound events before the end of the
+ * events or the first broken frame, whatever room there is. Then every other field of the answer
+ * is 0, and no octet of table and out and no number of refusals changes.
+ *
+ * Else it stops where the first of these is met, and `at` is that place in the events:
+ *
+ * - Their end.
+ * - A broken frame: fewer than 12 octets are left, the mark is not "EV", octet 9 is not 0, or the
+ *   length is over 4,096 or passes the end. `broken` is SSCF_REFUSED_FRAME, and this frame alone is
+ *   refused. It is a fault of whoever wrote the events: from there on nothing tells where one begins.
+ * - An event, be it one to accept or to refuse, for which fewer than SSCF_OUTPUT_OCTETS are left
+ *   of out. So no event is refused as SSCF_REFUSED_OUTPUT. The host goes on there, as below.
+ *
+ * What was done before stands. refusals is as it was past the first `taken` of its numbers, and out
+ * past its first `octets` octets; so is every record of a link that no event taken names. No events
+ * at all are accepted, with 0 in every field. As many times SSCF_OUTPUT_OCTETS as there are events
+ * are always enough of out.
+ *
+ * The signals are handed on when the burst has returned, so no event of it can be an answer to one
+ * of them. For one link these two must not stand in one burst, by what the host sees to above: an
+ * expiry behind an event that sets its timer anew, and an event of SSCOP's behind one for which
+ * RELEASE_REQUEST and one for which, after it, ESTABLISH_REQUEST is given.
+ *
+ * At a restart: link after link is to be started, and the events are in a buffer that may ask for
+ * more signals than out has room for. out has SSCF_OUTPUT_OCTETS at least, or no event is taken.
+ *
+ *     size_t begin = 0;
+ *
+ *     while (begin < octets) {
+ *         struct sscf_burst_answer answer;
+ *
+ *         answer = sscf_burst(table, sizeof table, events + begin, octets - begin, out, sizeof out,
+ *                             refusals, sizeof refusals / sizeof *refusals);
+ *         if (answer.refusal != SSCF_ACCEPTED)
+ *             return give_up(answer.refusal);
+ *         hand_on_signals(out, answer.octets);
+ *         look_at_refusals(refusals, answer.taken);
+ *         begin += answer.at;
+ *         if (answer.broken != 0)
+ *             return give_up(answer.broken);
+ *     }
+ */
+
+/* What a burst answers. */
+struct sscf_burst_answer {
+    uint32_t refusal; /* SSCF_ACCEPTED, SSCF_REFUSED_TABLE or SSCF_REFUSED_LIST */
+    uint32_t broken;  /* SSCF_REFUSED_FRAME if a broken frame ended the burst, else 0 */
+    size_t taken;     /* events that were taken: as many numbers stand in refusals */
+    size_t at;        /* where the burst stopped, in octets of the events */
+    size_t octets;    /* octets written to the output, from its beginning */
+    size_t signals;   /* signal records in them, one behind the other */
+};
+
+struct sscf_burst_answer sscf_burst(uint8_t *table, size_t table_octets,
+                                    const uint8_t *events, size_t events_octets,
+                                    uint8_t *out, size_t out_octets,
+                                    uint32_t *refusals, size_t refusals_count);
 
 /*
  * Answers the version of the library that the program was linked with, in the way of

@@ -133,22 +133,35 @@ static inline size_t sscf_put_bare_event(uint8_t *event, size_t room, uint32_t l
 /* SIGNALS */
 
 /*
- * The first signal that a step wrote to `out`, and the one behind another: a pointer into `out`,
- * or NULL if there is none. A signal is SSCF_HEAD_OCTETS and a message, whose length is
- * sscf_get_16(signal + SSCF_HEAD_AT_LENGTH). Neither looks at more than answer.octets of `out`.
+ * The first signal in the first `octets` octets of `out`, which a step or a burst answered, and the
+ * one behind another: a pointer into `out`, or NULL if there is none. A signal is SSCF_HEAD_OCTETS
+ * and a message, whose length is sscf_get_16(signal + SSCF_HEAD_AT_LENGTH). Neither looks at more
+ * than these octets.
  */
+static inline const uint8_t *sscf_signal_in(const uint8_t *out, size_t octets)
+{
+    return octets >= SSCF_HEAD_OCTETS ? out : NULL;
+}
+
+static inline const uint8_t *sscf_signal_behind(const uint8_t *out, size_t octets,
+                                                const uint8_t *signal)
+{
+    size_t length = SSCF_HEAD_OCTETS + sscf_get_16(signal + SSCF_HEAD_AT_LENGTH);
+    size_t left = octets - (size_t)(signal - out);
+
+    return left >= length + SSCF_HEAD_OCTETS ? signal + length : NULL;
+}
+
+/* The same of a step's answer. */
 static inline const uint8_t *sscf_first_signal(const uint8_t *out, struct sscf_answer answer)
 {
-    return answer.octets >= SSCF_HEAD_OCTETS ? out : NULL;
+    return sscf_signal_in(out, answer.octets);
 }
 
 static inline const uint8_t *sscf_next_signal(const uint8_t *out, struct sscf_answer answer,
                                               const uint8_t *signal)
 {
-    size_t octets = SSCF_HEAD_OCTETS + sscf_get_16(signal + SSCF_HEAD_AT_LENGTH);
-    size_t left = answer.octets - (size_t)(signal - out);
-
-    return left >= octets + SSCF_HEAD_OCTETS ? signal + octets : NULL;
+    return sscf_signal_behind(out, answer.octets, signal);
 }
 
 /*
@@ -321,6 +334,7 @@ static inline const char *sscf_refusal_name(uint32_t refusal)
     case SSCF_REFUSED_TIMER: return "timer not running";
     case SSCF_REFUSED_STATE: return "illegal in this state";
     case SSCF_REFUSED_OUTPUT: return "output too short";
+    case SSCF_REFUSED_LIST: return "list too short";
     default: return "?";
     }
 }
