@@ -292,9 +292,11 @@ static int step_agreed(const struct row *row, unsigned call)
 
 /*
  * The burst, a restart: START for each of some links that are no neighbours, then for each of them
- * the confirm, then the first expiry of T3, then a proving unit of the peer, all end to end. The
- * list is as long as the events are many, and each turn finds the table put back. A link's four
- * events make three signals, two, two and none; one of these carries a unit.
+ * the confirm, then the first expiry of T3, then a proving unit of the peer, all end to end. They
+ * are those of a restart, but that no host has them at once: a confirm answers a signal of START.
+ * The list has a place for every twelve octets of events, as sscf.h has it, so that they are not
+ * counted beforehand; and each turn finds the table put back. A link's four events make three
+ * signals, two, two and none; one of these carries a unit.
  */
 
 enum { LINK_EVENTS = 4 * SSCF_HEAD_OCTETS + SSCF_UNIT_OCTETS, LINK_SIGNALS = 3 + 2 + 2 };
@@ -302,7 +304,7 @@ enum { LINK_OUT = LINK_SIGNALS * SSCF_HEAD_OCTETS + SSCF_UNIT_OCTETS };
 
 static uint8_t events[LINKS * LINK_EVENTS], fresh[sizeof table];
 static uint8_t burst_out[LINKS * LINK_OUT + SSCF_OUTPUT_OCTETS];
-static uint32_t refusals[EVENTS];
+static uint32_t refusals[sizeof events / SSCF_HEAD_OCTETS];
 static struct sscf_burst_answer latest;
 
 static void set_up_burst(void)
@@ -425,7 +427,7 @@ static int read_agreed(void)
         (void)call;                                                                            \
         memcpy(table, fresh, sizeof table);                                                    \
         all = burst(table, table_octets, events, sizeof events, burst_out, sizeof burst_out,   \
-                    refusals, EVENTS);                                                         \
+                    refusals, sizeof refusals / sizeof *refusals);                             \
         return keep((struct sscf_burst_answer){all.refusal, all.broken, all.taken, all.at,     \
                                                all.octets, all.signals});                      \
     }                                                                                          \

@@ -2,7 +2,7 @@
  * A test of conformance: it makes the calls and checks every octet of what comes back, where all
  * is well and where it is not. What it expects is written down from Q.2140's Table 6, from Q.2210's
  * figures for the changeover messages, and from the layouts in sscf.h; nothing of it is taken from
- * the library.
+ * the library, but that a burst of one event is held against its single call.
  */
 #include <sscf_host.h>
 

@@ -44,16 +44,16 @@
  * OUT_OF_SERVICE; its own STOP, once accepted, takes the link out of service with no
  * OUT_OF_SERVICE to follow.
  *
- * It is never in service too early. Take a table that sscf_fresh made and that nothing but the three
- * calls has written into since; each was lent the whole table, as its table, and no call had any of
- * it as room for output. Where sscf_fresh makes it anew, all that was seen of it before counts no
- * more. After every sequence of such calls this is proved: a link is in service
- * exactly if its present connection came up and has not been released by either end or by SSCOP, as
- * many proving units as Q.2140's Table 7 decided for that connection were sent on it, its INS unit
- * was sent after them, and the peer's INS unit was received on that same connection. All of it held
+ * It is never in service too early. Take a table that sscf_fresh made and that nothing but the
+ * three calls has written into since; each was lent the whole table, as its table, and no call had
+ * any of it as out or as refusals. Where sscf_fresh makes it anew, all that was seen of it before
+ * counts no more. After every sequence of such calls this is proved: a link is in service exactly
+ * if its present connection came up and has not been released by either end or by SSCOP, as many
+ * proving units as Q.2140's Table 7 decided for that connection were sent on it, its INS unit was
+ * sent after them, and the peer's INS unit was received on that same connection. All of it held
  * already whenever IN_SERVICE was given. Where management had forced proving (FORCE_PROVING) when
  * the connection came up, these are n1 units; where it had forced emergency (FORCE_EMERGENCY), none
- * is ever sent.
+ * is ever sent. A burst counts as its single calls.
  *
  * Nor does a number for a changeover outlive the next connection that comes up. After every such
  * sequence of calls this is proved: where RETRIEVE_BSNT is accepted, it is answered by BSNT with
@@ -93,9 +93,9 @@
  *
  * These are the only things that the library cannot test.
  *
- * - Each pointer is good for as many octets as the length beside it says, the table and the output
- *   for writing too. A length of 0 may come with any pointer, NULL among them: nothing is read or
- *   written through it.
+ * - Each pointer is good for as many octets as the length beside it says, a burst's list for as
+ *   many numbers; the table, the output and the list for writing too. A length of 0 may come with
+ *   any pointer, NULL among them: nothing is read or written through it.
  * - The table, the event or the events, the output and a burst's list do not overlap.
  * - Nobody else touches these buffers during a call. There is no locking and no global state:
  *   calls on one table come one at a time, calls on different tables may run side by side.
@@ -117,16 +117,16 @@
  *   turns the peer's call down, and the link, in state 1 or 3, awaits none. Later, in state 2 or 5,
  *   it would be taken for another's.
  * - Nothing but sscf_fresh, sscf_step and sscf_burst writes into the table, and they only as their
- *   table. Each call is lent the whole of it, from the first record to the last, and no octet of it
- *   lies in the out or the refusals of any call, one on another table among them. A record that came there in another way is
- *   believed if it is well-formed, whatever it says.
+ *   table. Each call is lent the whole of it, from the first record to the last, and no call, also
+ *   one on another table, is given any octet of it as out or as refusals. A record that came there
+ *   in another way is believed if it is well-formed, whatever it says.
  * - Q.2140 wants no link to enter proving during local congestion. On START_PROVING for a link
  *   that is congested, hand in CONGESTION for it (again): this gives the connection up, and the
  *   link tries again after T1.
  *
- * Where the stack is short: a step takes 168 octets and a burst 248, by the listing. glibc's memmove
- * takes none, but where it is bound lazily its first call runs the dynamic loader, which took
- * 3 KB with 0.1.1, on a painted stack.
+ * Where the stack is short: a step takes 168 octets and a burst 248, by the listing. glibc's
+ * memmove takes none, but where it is bound lazily its first call runs the dynamic loader, which
+ * took 3 KB with 0.1.1, on a painted stack.
  */
 #ifndef SSCF_H
 #define SSCF_H
@@ -138,7 +138,8 @@
 extern "C" {
 #endif
 
-/* Up to 0.2.0 a number of BSNT was kept through later connections too. A table that such a version
+/* 0.4.0 adds sscf_burst; the other calls answer as those of 0.3.0 do.
+ * Up to 0.2.0 a number of BSNT was kept through later connections too. A table that such a version
  * has written is taken as it is: there BSNT may be older than the latest connection, until the next
  * DATA is accepted or the next connection comes up. */
 #define SSCF_VERSION "0.4.0"
@@ -154,7 +155,7 @@ extern "C" {
 #define SSCF_USER_MESSAGE_OCTETS_MIN 5 /* the peer takes four for a unit */
 #define SSCF_UNIT_OCTETS 4             /* an SSCF unit */
 #define SSCF_SIGNALS_MAX 8             /* signals from one event */
-#define SSCF_OUTPUT_OCTETS 4192        /* what a step asks for, 8 x 12 + 4,096; more is fine */
+#define SSCF_OUTPUT_OCTETS 4192        /* what a step asks for, 8 x 12 + 4,096; for a burst more */
 #define SSCF_N1_DEFAULT 1000           /* proving units of normal proving, Q.2140's default */
 
 /*
@@ -412,7 +413,8 @@ enum sscf_report_reason { /* octet 8 */
  * REFUSALS
  *
  * Each is given exactly where it is listed, and the checks are made in this order: where several
- * things are wrong the lowest number is answered. 13 is of a burst alone, see there.
+ * things are wrong the lowest number is answered. 13 is of a burst alone, see there; 10 to 12 are
+ * not given.
  *
  * 1 to 6, 9 and 13 are faults of the host: a wrong length, an event written wrong, a record that
  * something else wrote into. The same call is refused again, so they are to be logged and mended.
@@ -499,38 +501,53 @@ struct sscf_answer sscf_step(uint8_t *table, size_t table_octets,
 /*
  * A BURST
  *
- * Takes events that stand end to end in one buffer, for any links of the table. Each is done as
- * sscf_step would do it, one after the other: on the table that the one before left, with the
- * output that it left. So the signals of all stand in out, one behind the other in the order of
- * their events, and refusals[n] is what sscf_step would have answered for the n-th event: 0 if it
- * was accepted. An event that is refused is passed over, and the burst goes on with the next.
+ * Takes events that stand end to end in one buffer, for any links of the table: hundreds at a
+ * restart, in one crossing into the library. Each is done as sscf_step would do it, one after the
+ * other, on the table that the one before left and with the rest of the output. So the signals of
+ * all stand in out, one behind the other in the order of their events, and refusals[n], counted
+ * from 0, is what sscf_step would have answered for event n: 0 if it was accepted, else 3 to 8. An
+ * event that is refused is passed over, and the burst goes on with the next.
+ *
+ * An event is sound here, accepted or not, if its frame is not broken; and a frame is broken if
+ * fewer than 12 octets are left, the mark is not "EV", octet 9 is not 0, or the length is over
+ * 4,096 or passes the end.
  *
  * Before anything is written the burst as a whole may be refused: as SSCF_REFUSED_TABLE, or else as
- * SSCF_REFUSED_LIST if refusals is shorter than there are sound events before the end of the
- * events or the first broken frame, whatever room there is. Then every other field of the answer
- * is 0, and no octet of table and out and no number of refusals changes.
+ * SSCF_REFUSED_LIST if refusals has fewer places than there are sound events before the end or the
+ * first broken frame, also where there will be no room for all. Then every other field of the
+ * answer is 0, and no octet of table and out and no number of refusals changes.
  *
- * Else it stops where the first of these is met, and `at` is that place in the events:
+ * Else `refusal` is SSCF_ACCEPTED, and the burst stops where the first of these is met, which is
+ * `at`:
  *
- * - Their end.
- * - A broken frame: fewer than 12 octets are left, the mark is not "EV", octet 9 is not 0, or the
- *   length is over 4,096 or passes the end. `broken` is SSCF_REFUSED_FRAME, and this frame alone is
- *   refused. It is a fault of whoever wrote the events: from there on nothing tells where one begins.
- * - An event, be it one to accept or to refuse, for which fewer than SSCF_OUTPUT_OCTETS are left
- *   of out. So no event is refused as SSCF_REFUSED_OUTPUT. The host goes on there, as below.
+ * - The end of the events.
+ * - A broken frame, which is told, and asks for no room: `broken` is SSCF_REFUSED_FRAME. It has no
+ *   number in refusals, and neither it nor anything behind it is taken. Nothing in it tells where
+ *   the next event begins.
+ * - An event, to be accepted or refused, for which fewer than SSCF_OUTPUT_OCTETS are left of out.
+ *   So none is refused as SSCF_REFUSED_OUTPUT. The host goes on there, with out empty again.
  *
  * What was done before stands. refusals is as it was past the first `taken` of its numbers, and out
- * past its first `octets` octets; so is every record of a link that no event taken names. No events
- * at all are accepted, with 0 in every field. As many times SSCF_OUTPUT_OCTETS as there are events
- * are always enough of out.
+ * past its first `octets` octets; so is every record of a link that no event taken names. A burst
+ * of no events, events_octets 0, is accepted with 0 in every field.
  *
- * The signals are handed on when the burst has returned, so no event of it can be an answer to one
- * of them. For one link these two must not stand in one burst, by what the host sees to above: an
- * expiry behind an event that sets its timer anew, and an event of SSCOP's behind one for which
- * RELEASE_REQUEST and one for which, after it, ESTABLISH_REQUEST is given.
+ * How large the buffers are to be. An out of SSCF_OUTPUT_OCTETS and twelve times the octets of the
+ * events always has room for all of them. With less the burst may have to stop: with just
+ * SSCF_OUTPUT_OCTETS behind the first event that has a signal; and with fewer it takes none and is
+ * accepted all the same, so a loop has to look at `taken`. Of refusals
+ * events_octets / SSCF_HEAD_OCTETS places are always enough; where it has so many, the events are
+ * not counted beforehand, which saves time.
  *
- * At a restart: link after link is to be started, and the events are in a buffer that may ask for
- * more signals than out has room for. out has SSCF_OUTPUT_OCTETS at least, or no event is taken.
+ * What may stand in one buffer. The signals are handed on when the burst has returned, so no event
+ * can be an answer to one of them, and meanwhile the table is as the last event taken left it. One
+ * event for each link is always right. Of several for one link the host sees to it, as above and
+ * for the whole buffer, also where want of room splits it, that there is
+ *
+ * - no expiry behind an event that sets its timer anew, so never two of T3;
+ * - no event 16 to 22 behind two others of which the first gives RELEASE_REQUEST and a later one
+ *   ESTABLISH_REQUEST.
+ *
+ * At a restart, with the events and their octets in a buffer of the host's:
  *
  *     size_t begin = 0;
  *
@@ -541,12 +558,16 @@ struct sscf_answer sscf_step(uint8_t *table, size_t table_octets,
  *                             refusals, sizeof refusals / sizeof *refusals);
  *         if (answer.refusal != SSCF_ACCEPTED)
  *             return give_up(answer.refusal);
- *         hand_on_signals(out, answer.octets);
- *         look_at_refusals(refusals, answer.taken);
+ *         hand_on_burst(out, answer.octets);
+ *         look_at_refusals(events + begin, refusals, answer.taken);
  *         begin += answer.at;
  *         if (answer.broken != 0)
  *             return give_up(answer.broken);
+ *         if (answer.taken == 0)
+ *             return give_up(SSCF_REFUSED_OUTPUT);
  *     }
+ *
+ * sscf_host.h has functions that go through events and signals end to end.
  */
 
 /* What a burst answers. */

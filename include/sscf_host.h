@@ -102,7 +102,8 @@ static inline uint32_t sscf_link_state(const uint8_t *table, uint32_t link)
  *
  * Answers the event's octets, SSCF_HEAD_OCTETS + length, for sscf_step. If a value is too large for
  * its field, or the event for the room, it answers 0 and writes nothing; an event of 0 octets is
- * refused as SSCF_REFUSED_FRAME. Whether the fields are right for the code sscf_step says.
+ * refused as SSCF_REFUSED_FRAME. In a buffer for sscf_burst it is simply not there: test for 0.
+ * Whether the fields are right for the code sscf_step and sscf_burst say.
  */
 static inline size_t sscf_put_event(uint8_t *event, size_t room, uint32_t link, uint32_t code,
                                     uint32_t parameter, uint32_t number,
@@ -130,38 +131,38 @@ static inline size_t sscf_put_bare_event(uint8_t *event, size_t room, uint32_t l
     return sscf_put_event(event, room, link, code, 0, 0, NULL, 0);
 }
 
-/* SIGNALS */
+/* RECORDS END TO END */
 
 /*
- * The first signal in the first `octets` octets of `out`, which a step or a burst answered, and the
- * one behind another: a pointer into `out`, or NULL if there is none. A signal is SSCF_HEAD_OCTETS
- * and a message, whose length is sscf_get_16(signal + SSCF_HEAD_AT_LENGTH). Neither looks at more
- * than these octets.
+ * Of signals that a step or a burst wrote, or of a burst's events: the first one in so many octets,
+ * and the one behind another: a pointer into the buffer, or NULL if there is none. A record is
+ * SSCF_HEAD_OCTETS and a message, whose length is sscf_get_16(record + SSCF_HEAD_AT_LENGTH).
+ * Neither function looks at more than these octets, or asks whether a record is sound.
  */
-static inline const uint8_t *sscf_signal_in(const uint8_t *out, size_t octets)
+static inline const uint8_t *sscf_first_record(const uint8_t *buffer, size_t octets)
 {
-    return octets >= SSCF_HEAD_OCTETS ? out : NULL;
+    return octets >= SSCF_HEAD_OCTETS ? buffer : NULL;
 }
 
-static inline const uint8_t *sscf_signal_behind(const uint8_t *out, size_t octets,
-                                                const uint8_t *signal)
+static inline const uint8_t *sscf_next_record(const uint8_t *buffer, size_t octets,
+                                              const uint8_t *record)
 {
-    size_t length = SSCF_HEAD_OCTETS + sscf_get_16(signal + SSCF_HEAD_AT_LENGTH);
-    size_t left = octets - (size_t)(signal - out);
+    size_t length = SSCF_HEAD_OCTETS + sscf_get_16(record + SSCF_HEAD_AT_LENGTH);
+    size_t left = octets - (size_t)(record - buffer);
 
-    return left >= length + SSCF_HEAD_OCTETS ? signal + length : NULL;
+    return left >= length + SSCF_HEAD_OCTETS ? record + length : NULL;
 }
 
-/* The same of a step's answer. */
+/* The same of the signals that a step answered. */
 static inline const uint8_t *sscf_first_signal(const uint8_t *out, struct sscf_answer answer)
 {
-    return sscf_signal_in(out, answer.octets);
+    return sscf_first_record(out, answer.octets);
 }
 
 static inline const uint8_t *sscf_next_signal(const uint8_t *out, struct sscf_answer answer,
                                               const uint8_t *signal)
 {
-    return sscf_signal_behind(out, answer.octets, signal);
+    return sscf_next_record(out, answer.octets, signal);
 }
 
 /*

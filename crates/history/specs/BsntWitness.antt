@@ -1,4 +1,4 @@
--- Histories that the checker computes, on octets and through both calls, for request 2026-02: RETRIEVE_BSNT is handed in as the last call of each, and this is what it answers.
+-- Histories that the checker computes, on octets and through the calls, for request 2026-02: RETRIEVE_BSNT is handed in as the last call of each, and this is what it answers.
 use Prim.Native.Nat.{ℕ}
 use mathlib.Core.Path.{_≡_}
 use mathlib.Core.List.{List, [], _∷_, _++_}

@@ -8,7 +8,7 @@ use native.Mathlib.Omega.{arith}
 use lib.Dec.{eqb, leb, ltb}
 use lib.ListN.{length, take, drop, getD, length-append, length-drop, take-append-drop, List·getD-append}
 use lib.Seq.{take-length, drop-length, length-take-le, take-append-le, drop-append-le, drop-append-add, drop-drop}
-use borrow.Author.Tests.{ltb-true, ltb-false, le-ltb, eqb-false}
+use borrow.Author.Tests.{ltb-true, ltb-false, le-ltb, eqb-true, eqb-false}
 use Rattle.unit.specs.Checks.{Verdict, passed, refused, first}
 use Rattle.octet.specs.Octets.{at, two, over}
 use Rattle.octet.proofs.Over.{length-over, over-front, over-rest}
@@ -24,9 +24,9 @@ use Rattle.step.specs.declared.Refusal.{Refusal}
 use Rattle.step.specs.Checks.{number}
 use Rattle.step.specs.Step.{badTable, records, recordAt, unknown, idle, isIllegal, linkFor, checks, performed, outcome, stepCall}
 use Rattle.sscf.specs.Burst.{written, left, Single, singly, eventsOf, numbersOf, writtenBy, signalsBy, tableAfter, BurstOutcome, bursting, burstAnswered, burstChecks, brokenAt, came, burstCall}
-use Rattle.sscf.specs.BurstLaws.{BurstRefusalsUntouched, BurstUntouched, BurstRestUntouched, NamedByNone, BurstOthersUntouched, OneEvent, Stops, StopsOnly, AlwaysRoom, endToEnd, Events, then, together, SplitInTwo, BrokenStands, AskedBefore}
-use Rattle.step.proofs.Untouched.{number-above, same-lengths, rest-untouched, others-untouched, at-most-4192}
-use Rattle.sscf.proofs.Singles.{no-frame, a-frame, found, written-length, output-is, no-room, single, one-more, events-and, written-and, numbers-and, signals-and, table-and, numbers-length, broken-there, sound-there, as-good}
+use Rattle.sscf.specs.BurstLaws.{BurstRefusalsUntouched, BurstUntouched, BurstRestUntouched, NamedByNone, BurstOthersUntouched, OneEvent, Stops, StopsOnly, NoEvents, AlwaysRoom, AlwaysPlace, endToEnd, Events, then, together, SplitInTwo, BrokenStands, AskedBefore}
+use Rattle.step.proofs.Untouched.{number-above, same-lengths, rest-untouched, others-untouched, at-most-4192, at-most-twelvefold}
+use Rattle.sscf.proofs.Singles.{no-frame, a-frame, found, Found, found-one, few-frames, written-length, output-is, no-room, single, one-more, events-and, written-and, numbers-and, signals-and, table-and, numbers-length, broken-there, sound-there, as-good}
 use Rattle.sscf.proofs.BurstCall.{burst-refused, burst-passed, Open, both, either-burst}
 
 -- REFUSALS
@@ -98,7 +98,7 @@ calls =
 -- PAST WHAT WAS WRITTEN
 pub burst-rest-untouched : BurstRestUntouched
 burst-rest-untouched t es o l =
-    either-burst t es o l (λ c. BurstUntouched t es o l c) (λ x e. record { output = refl; list = refl; lengths = (refl, refl, refl) })
+    either-burst t es o l (λ c. BurstUntouched t o l c) (λ x e. record { output = refl; list = refl; lengths = (refl, refl, refl) })
     (λ p.
     let s = singly (frames es) t o in
     let k = calls (frames es) t o in
@@ -119,26 +119,6 @@ burst-others-untouched t es o l k =
     either-burst t es o l (λ c. NamedByNone k (take (c .answer .taken) (frames es)) → recordAt (c .table) k ≡ recordAt t k) (λ x e h. refl) (λ p. others k (frames es) t o)
 
 -- THE FRAMES of octets
-abbrev hd : List (List ℕ) → List ℕ
-hd [] = []
-hd (f ∷ fs) = f
-
-abbrev tl : List (List ℕ) → List (List ℕ)
-tl [] = []
-tl (f ∷ fs) = fs
-
--- where there is one, it is the front, and the others are those behind it
-record Found (es f : List ℕ) (fs : List (List ℕ)) : Type 0 where
-  is-sound : sound es ≡ true
-  is-front : f ≡ front es
-  are-behind : fs ≡ frames (events.behind es)
-
-found-one : (es f : List ℕ) (fs : List (List ℕ)) → frames es ≡ f ∷ fs → Found es f fs
-found-one es f fs h =
-    let s = found es (omega (arith, ap length h)) in
-    let e = sym h ∙ a-frame es s in
-    record { is-sound = s; is-front = ap hd e; are-behind = ap tl e }
-
 front-long : (es : List ℕ) → sound es ≡ true → length (front es) ≡ 12 + lengthAt es
 front-long es s = length-take-le (12 + lengthAt es) es (well-formed es s .within)
 
@@ -259,38 +239,54 @@ module _ (t es o : List ℕ) where
   all-done : length S ≡ length (frames es) → frames rest ≡ []
   all-done h = rest-frames ∙ ap (λ (n : ℕ). drop n (frames es)) h ∙ drop-length (frames es)
 
-  why-stops : (length (eventsOf S) ≡ length es) ⊎ ((brokenAt rest ≡ 2) ⊎ (length o - length (writtenBy S) < 4192))
-  why-stops = ⊎-elim (λ x. by (ltb 0 (length rest)) refl (all-done x)) (λ y. inr (inr y)) (calls (frames es) t o .why) where
-    by : (b : Bool) → ltb 0 (length rest) ≡ b → frames rest ≡ [] → (length (eventsOf S) ≡ length es) ⊎ ((brokenAt rest ≡ 2) ⊎ (length o - length (writtenBy S) < 4192))
-    by true h f = inr (inl (sym (broken-there rest f (ltb-true 0 (length rest) h))))
-    by false h f = inl (omega (arith, ltb-false 0 (length rest) h, length-drop (length (eventsOf S)) es, rest-inside))
+  abbrev Why : ℕ → Type 0
+  Why b =
+      ((length (eventsOf S) ≡ length es) × (b ≡ 0))
+      ⊎ (((length (eventsOf S) < length es) × (sound rest ≡ false) × (b ≡ 2))
+      ⊎ ((sound rest ≡ true) × (length o - length (writtenBy S) < 4192) × (b ≡ 0)))
 
-broken-only : (l : List ℕ) → brokenAt l ≡ 2 → (1 ≤ length l) × (sound l ≡ false)
-broken-only l h = by (eqb (length l) 0) (sound l) refl h where
-  by : (a b : Bool) → eqb (length l) 0 ≡ a → cond (a || b) 0 (number Refusal.Frame) ≡ number Refusal.Frame → (1 ≤ length l) × (b ≡ false)
-  by true b e x = absurd (omega (arith, x))
-  by false true e x = absurd (omega (arith, x))
-  by false false e x = (omega (arith, eqb-false (length l) 0 e), refl)
+  -- a sound frame is left: then not all were taken, for want of room
+  short-of-room : sound rest ≡ true → length o - length (writtenBy S) < 4192
+  short-of-room s = ⊎-elim (λ x. absurd (omega (arith, ap length (sym (all-done x) ∙ a-frame rest s)))) (λ y. y) (calls (frames es) t o .why)
+
+  why-stops : Why (brokenAt rest)
+  why-stops = by (eqb (length rest) 0) (sound rest) refl refl where
+    by : (a b : Bool) → eqb (length rest) 0 ≡ a → sound rest ≡ b → Why (cond (a || b) 0 (number Refusal.Frame))
+    by true b e s = inl (omega (arith, eqb-true (length rest) 0 e, length-drop (length (eventsOf S)) es, rest-inside), refl)
+    by false true e s = inr (inr (s, short-of-room s, refl))
+    by false false e s = inr (inl (omega (arith, eqb-false (length rest) 0 e, length-drop (length (eventsOf S)) es), s, refl))
 
 pub stops-only : StopsOnly
 stops-only t es o l =
     either-burst t es o l (λ c. c .answer .refusal ≡ 0 → Stops es o c) (λ x e h. absurd (omega (arith, number-above x, h)))
-    (λ p h. record {
-      inside = rest-inside t es o;
-      why = why-stops t es o;
-      broken = λ x. let b = broken-only (rest t es o) x in (omega (arith, b .0, length-drop (length (eventsOf (S t es o))) es), b .1);
-    })
+    (λ p h. record { inside = rest-inside t es o; others = rest-frames t es o; why = why-stops t es o })
+
+pub no-events : NoEvents
+unfolding over
+no-events t o l good =
+    let f : frames [] ≡ [] = no-frame [] (broken [] (λ w. omega (arith, w .twelve))) in
+    passed-is t [] o l (record { good = good; places = omega (arith, ap length f) }) ∙ ap (λ (fs : List (List ℕ)). came (singly fs t o) t [] o l) f
 
 -- with room for each all are made
-room-for-each : (fs : List (List ℕ)) (t o : List ℕ) → 4192 * length fs ≤ length o → length (singly fs t o) ≡ length fs
+room-for-each : (fs : List (List ℕ)) (t o : List ℕ) → 4192 + 12 * length (endToEnd fs) ≤ length o → length (singly fs t o) ≡ length fs
 room-for-each =
-    each-call (λ fs t o s. 4192 * length fs ≤ length o → length s ≡ length fs) (λ t o h. refl) (λ e fs t o r h. absurd (omega (arith, r, h)))
-    (λ e fs t o s r p h. ap suc (p (omega (arith, h, left-long t e o, written-length t e o, at-most-4192 t e o))))
+    each-call (λ fs t o s. 4192 + 12 * length (endToEnd fs) ≤ length o → length s ≡ length fs) (λ t o h. refl) (λ e fs t o r h. absurd (omega (arith, r, h)))
+    (λ e fs t o s r p h. ap suc (p (omega (arith, h, left-long t e o, written-length t e o, at-most-twelvefold t e o, length-append e (endToEnd fs)))))
+
+all-within : (es : List ℕ) → length (endToEnd (frames es)) ≤ length es
+all-within es = omega (arith, from (length (frames es)) es (frames es) refl .within, ap (λ (fs : List (List ℕ)). length (endToEnd fs)) (take-length (frames es)))
 
 pub always-room : AlwaysRoom
 always-room t es o l =
-    either-burst t es o l (λ c. c .answer .refusal ≡ 0 → 4192 * length (frames es) ≤ length o → c .answer .taken ≡ length (frames es)) (λ x e h. absurd (omega (arith, number-above x, h)))
-    (λ p h. room-for-each (frames es) t o)
+    either-burst t es o l (λ c. c .answer .refusal ≡ 0 → 4192 + 12 * length es ≤ length o → c .answer .taken ≡ length (frames es)) (λ x e h. absurd (omega (arith, number-above x, h)))
+    (λ p h g. room-for-each (frames es) t o (omega (arith, g, all-within es)))
+
+pub always-place : AlwaysPlace
+always-place t es o l h r =
+    by (badTable t) refl where
+      by : (b : Bool) → badTable t ≡ b → ⊥
+      by true b = omega (arith, sym r ∙ ap (λ (c : BurstOutcome). c .answer .refusal) (burst-refused t es o l Refusal.Table (rw b)))
+      by false b = omega (arith, sym r ∙ ap (λ (c : BurstOutcome). c .answer .refusal) (passed-is t es o l (record { good = b; places = omega (arith, h, few-frames es) })))
 
 -- SPLIT IN TWO
 two-runs : (gs fs : List (List ℕ)) (t o : List ℕ) → let s = singly fs t o in

@@ -2,7 +2,7 @@
 use mathlib.Core.Path.{_≡_, refl, sym, ap, _∙_}
 use mathlib.Core.Bool.{Bool, true, false, cond, _&&_, or-true}
 use mathlib.Core.List.{List, [], _∷_, _++_, append-assoc, append-nil}
-use Prim.Native.Nat.{ℕ, zero, suc, _+_, _-_, _≤_, _<_}
+use Prim.Native.Nat.{ℕ, zero, suc, _+_, _-_, _*_, _≤_, _<_}
 use native.Mathlib.Omega.{arith}
 use lib.Dec.{eqb, ltb}
 use lib.ListN.{length, take, drop, set, length-append, length-drop, length-set, take-append-drop}
@@ -54,6 +54,37 @@ found es h = by (sound es) refl where
   by : (b : Bool) → sound es ≡ b → b ≡ true
   by true s = refl
   by false s = absurd (omega (arith, h, ap length (no-frame es s)))
+
+abbrev hd : List (List ℕ) → List ℕ
+hd [] = []
+hd (f ∷ fs) = f
+
+abbrev tl : List (List ℕ) → List (List ℕ)
+tl [] = []
+tl (f ∷ fs) = fs
+
+-- where there is one, it is the front, and the others are those behind it
+pub record Found (es f : List ℕ) (fs : List (List ℕ)) : Type 0 where
+  pub is-sound : sound es ≡ true
+  pub is-front : f ≡ front es
+  pub are-behind : fs ≡ frames (events.behind es)
+
+pub found-one : (es f : List ℕ) (fs : List (List ℕ)) → frames es ≡ f ∷ fs → Found es f fs
+found-one es f fs h =
+    let s = found es (omega (arith, ap length h)) in
+    let e = sym h ∙ a-frame es s in
+    record { is-sound = s; is-front = ap hd e; are-behind = ap tl e }
+
+-- each has twelve octets at least
+few : (fs : List (List ℕ)) (es : List ℕ) → frames es ≡ fs → 12 * length fs ≤ length es
+few [] es h = omega arith
+few (f ∷ fs) es h =
+    let g = found-one es f fs h in
+    let w = well-formed es (g .is-sound) in
+    omega (arith, few fs (events.behind es) (sym (g .are-behind)), length-drop (12 + lengthAt es) es, w .within)
+
+pub few-frames : (es : List ℕ) → 12 * length (frames es) ≤ length es
+few-frames es = few (frames es) es refl
 
 -- those behind the first, from its place on
 pub behind-from : (es : List ℕ) (at n : ℕ) → n ≡ 12 + lengthAt (drop at es) → events.behind (drop at es) ≡ drop (at + n) es
@@ -181,15 +212,8 @@ ends {t₀} {es} {o₀} {l₀} {t} {o} {l} {n} {at} {put} {count} r b none e =
     ∙ ap (λ (s : List Single). came s t₀ es o₀ l₀) (sym w)
 
 -- WHERE IT STOPS: none is left, and what stands there
-empty : (l : List (List ℕ)) → length l ≡ 0 → l ≡ []
-empty [] h = refl
-empty (x ∷ l) h = absurd (omega arith)
-
-pub all-taken : {t₀ es o₀ l₀ t o l : List ℕ} {n at put count : ℕ} (r : Reached t₀ es o₀ l₀ t o l n at put count) → length (frames es) ≤ n → frames (drop at es) ≡ []
-all-taken {es = es} {at = at} r h = empty (frames (drop at es)) (omega (arith, r .others, h))
-
-pub none-left : {t₀ es o₀ l₀ t o l : List ℕ} {n at put count : ℕ} (r : Reached t₀ es o₀ l₀ t o l n at put count) → length (frames es) ≤ n → singly (frames (drop at es)) t (drop put o) ≡ []
-none-left {t = t} {o = o} {put = put} r h = ap (λ (fs : List (List ℕ)). singly fs t (drop put o)) (all-taken r h)
+pub none-left : (es t o : List ℕ) → sound es ≡ false → singly (frames es) t o ≡ []
+none-left es t o s = ap (λ (fs : List (List ℕ)). singly fs t o) (no-frame es s)
 
 pub no-room-left : {t₀ es o₀ l₀ t o l : List ℕ} {n at put count : ℕ} (r : Reached t₀ es o₀ l₀ t o l n at put count) → length o - put < 4192 → singly (frames (drop at es)) t (drop put o) ≡ []
 no-room-left {es = es} {t = t} {o = o} {at = at} {put = put} r h = no-room (frames (drop at es)) t (drop put o) (omega (arith, h, length-drop put o))
@@ -200,21 +224,8 @@ broken-there rest f h = rw (ne-eqb (length rest) 0 (λ e. omega (arith, h, e)), 
   by true s = absurd (omega (arith, ap length (sym f ∙ a-frame rest s)))
   by false s = refl
 
-pub end-there : (rest : List ℕ) → length rest ≡ 0 → 0 ≡ brokenAt rest
-end-there rest h = rw (eq-eqb (length rest) 0 h)
-
 pub sound-there : (rest : List ℕ) → sound rest ≡ true → 0 ≡ brokenAt rest
 sound-there rest h = rw (h, or-true (eqb (length rest) 0))
-
--- as the code tells it: whether all frames are taken, and whether something is left
-pub told-broken : {t₀ es o₀ l₀ t o l : List ℕ} {n at put count : ℕ} (r : Reached t₀ es o₀ l₀ t o l n at put count) (m : ℕ) → m ≡ length (frames es) →
-    cond (eqb n m && ltb at (length es)) 2 0 ≡ brokenAt (drop at es)
-told-broken {es = es} {n = n} {at = at} r m e = by (eqb n m) (ltb at (length es)) refl refl where
-  by : (a b : Bool) → eqb n m ≡ a → ltb at (length es) ≡ b → cond (a && b) 2 0 ≡ brokenAt (drop at es)
-  by true true p q =
-      broken-there (drop at es) (all-taken r (omega (arith, eqb-true n m p, e))) (omega (arith, ltb-true at (length es) q, length-drop at es))
-  by true false p q = end-there (drop at es) (omega (arith, ltb-false at (length es) q, length-drop at es))
-  by false b p q = sound-there (drop at es) (found (drop at es) (omega (arith, eqb-false n m p, r .others, e)))
 
 -- past what was written nothing has changed
 past-over : (s d : List ℕ) (n : ℕ) → length s ≤ n → drop n (over s d) ≡ drop n d
@@ -237,9 +248,9 @@ pub as-good : (t₀ t : List ℕ) → length t ≡ length t₀ → badTable t₀
 as-good t₀ t e h = rw e h
 
 -- ONE MORE CALL: of the frame at `at`, which ends at `end`
-module _ {t₀ es o₀ l₀ t o l : List ℕ} {n at put count : ℕ} (r : Reached t₀ es o₀ l₀ t o l n at put count) (more : n < length (frames es)) where
-  pub here : sound (drop at es) ≡ true
-  here = found (drop at es) (omega (arith, r .others, more))
+module _ {t₀ es o₀ l₀ t o l : List ℕ} {n at put count : ℕ} (r : Reached t₀ es o₀ l₀ t o l n at put count) (here : sound (drop at es) ≡ true) where
+  pub more : n < length (frames es)
+  more = omega (arith, r .others, ap length (a-frame (drop at es) here))
 
   pub within : at + (12 + lengthAt (drop at es)) ≤ length es
   within = omega (arith, well-formed (drop at es) here .within, length-drop at es, r .at-in)

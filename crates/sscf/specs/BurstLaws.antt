@@ -1,5 +1,5 @@
 -- What holds of a burst on all octets, said plainly. All of it follows from Burst.antt.
-use Prim.Native.Nat.{ℕ, _+_, _-_, _*_, _≤_, _<_}
+use Prim.Native.Nat.{ℕ, _+_, _-_, _*_, _/_, _≤_, _<_}
 use mathlib.Core.Path.{_≡_}
 use mathlib.Core.Bool.{true, false}
 use mathlib.Core.Logic.{_⊎_}
@@ -18,13 +18,13 @@ BurstRefusalsUntouched =
     1 ≤ c .answer .refusal → ((c .answer .refusal ≡ 1) ⊎ (c .answer .refusal ≡ 13)) × (c ≡ bursting (burstAnswered (c .answer .refusal) 0 0 0 0 0) t o l)
 
 -- PAST WHAT WAS WRITTEN output and list are as they were, and so is the record of a link that no event that was taken names. All lengths stay.
-pub record BurstUntouched (t es o l : List ℕ) (c : BurstOutcome) : Type 0 where
+pub record BurstUntouched (t o l : List ℕ) (c : BurstOutcome) : Type 0 where
   pub output : drop (c .answer .octets) (c .output) ≡ drop (c .answer .octets) o
   pub list : drop (c .answer .taken) (c .list) ≡ drop (c .answer .taken) l
   pub lengths : (length (c .table) ≡ length t) × (length (c .output) ≡ length o) × (length (c .list) ≡ length l)
 
 abbrev pub BurstRestUntouched : Type 0
-BurstRestUntouched = (t es o l : List ℕ) → BurstUntouched t es o l (burstCall t es o l)
+BurstRestUntouched = (t es o l : List ℕ) → BurstUntouched t o l (burstCall t es o l)
 
 abbrev pub NamedByNone : ℕ → List (List ℕ) → Type 0
 NamedByNone k [] = Unit {0}
@@ -41,18 +41,30 @@ OneEvent =
     (t e o l : List ℕ) (n : ℕ) → badTable t ≡ false → framed e ≡ true → outputOctets ≤ length o → let c = stepCall t e o in
     burstCall t e o (n ∷ l) ≡ bursting (burstAnswered 0 0 1 (length e) (c .answer .octets) (c .answer .signals)) (c .table) (c .output) (c .answer .refusal ∷ l)
 
--- IT STOPS EARLY only for want of room or at a broken frame.
+-- IT STOPS at the end; else at a broken frame, which is told, whatever room there is; else, before a sound one, for want of room. So early only for want of room or
+-- at a broken frame. `at` is in octets of the events, and those behind it are the events that were not taken: there a host goes on.
 pub record Stops (es o : List ℕ) (c : BurstOutcome) : Type 0 where
   pub inside : c .answer .at ≤ length es
-  pub why : (c .answer .at ≡ length es) ⊎ ((c .answer .broken ≡ 2) ⊎ (length o - c .answer .octets < outputOctets))
-  pub broken : c .answer .broken ≡ 2 → (c .answer .at < length es) × (sound (drop (c .answer .at) es) ≡ false)
+  pub others : frames (drop (c .answer .at) es) ≡ drop (c .answer .taken) (frames es)
+  pub why :
+      ((c .answer .at ≡ length es) × (c .answer .broken ≡ 0))
+      ⊎ (((c .answer .at < length es) × (sound (drop (c .answer .at) es) ≡ false) × (c .answer .broken ≡ 2))
+      ⊎ ((sound (drop (c .answer .at) es) ≡ true) × (length o - c .answer .octets < outputOctets) × (c .answer .broken ≡ 0)))
 
 abbrev pub StopsOnly : Type 0
 StopsOnly = (t es o l : List ℕ) → burstCall t es o l .answer .refusal ≡ 0 → Stops es o (burstCall t es o l)
 
--- With as many times 4,192 octets of output as there are events it takes them all.
+-- Of no events nothing is done, and every field is 0.
+abbrev pub NoEvents : Type 0
+NoEvents = (t o l : List ℕ) → badTable t ≡ false → burstCall t [] o l ≡ bursting (burstAnswered 0 0 0 0 0 0) t o l
+
+-- With 4,192 octets of output and twelve times those of the events beside them it takes all of them.
 abbrev pub AlwaysRoom : Type 0
-AlwaysRoom = (t es o l : List ℕ) → burstCall t es o l .answer .refusal ≡ 0 → outputOctets * length (frames es) ≤ length o → burstCall t es o l .answer .taken ≡ length (frames es)
+AlwaysRoom = (t es o l : List ℕ) → burstCall t es o l .answer .refusal ≡ 0 → outputOctets + 12 * length es ≤ length o → burstCall t es o l .answer .taken ≡ length (frames es)
+
+-- A list with a number for every twelve octets of them is never too short.
+abbrev pub AlwaysPlace : Type 0
+AlwaysPlace = (t es o l : List ℕ) → length es / 12 ≤ length l → burstCall t es o l .answer .refusal ≡ 13 → ⊥
 
 -- SPLIT IN TWO, at any event: what comes before is sound frames and nothing else.
 abbrev pub endToEnd : List (List ℕ) → List ℕ
@@ -69,7 +81,7 @@ then a es = burstCall (a .table) es (drop (a .answer .octets) (a .output)) (drop
 abbrev pub together : BurstOutcome → BurstOutcome → BurstOutcome
 together a b =
     bursting
-    (burstAnswered 0 (b .answer .broken) (a .answer .taken + b .answer .taken) (a .answer .at + b .answer .at) (a .answer .octets + b .answer .octets) (a .answer .signals + b .answer .signals))
+    (burstAnswered (b .answer .refusal) (b .answer .broken) (a .answer .taken + b .answer .taken) (a .answer .at + b .answer .at) (a .answer .octets + b .answer .octets) (a .answer .signals + b .answer .signals))
     (b .table)
     (take (a .answer .octets) (a .output) ++ b .output)
     (take (a .answer .taken) (a .list) ++ b .list)
@@ -82,13 +94,13 @@ SplitInTwo =
     × (a .answer .taken ≡ length (frames es) → burstCall t (es ++ others) o l ≡ together a (then a others))
     × (a .answer .taken < length (frames es) → burstCall t (es ++ others) o l ≡ a)
 
--- WHAT WAS DONE BEFORE a broken frame stands: all is as without it, but that it is told.
+-- WHAT WAS DONE BEFORE a broken frame stands: all but `broken` is as without it.
 abbrev pub BrokenStands : Type 0
 BrokenStands =
     (t es others o l : List ℕ) → Events es → sound others ≡ false → let a = burstCall t es o l in let c = burstCall t (es ++ others) o l in
     c ≡ bursting (burstAnswered (a .answer .refusal) (c .answer .broken) (a .answer .taken) (a .answer .at) (a .answer .octets) (a .answer .signals)) (a .table) (a .output) (a .list)
 
--- NO EVENT IS REFUSED BY 9, nor by 1 or 2: table, frame and room are asked before.
+-- NO EVENT THAT IS TAKEN IS REFUSED BY 9, nor by 1 or 2: table, frame and room are asked before.
 abbrev pub NeverRefusedBy : ℕ → Type 0
 NeverRefusedBy r = (t es o l : List ℕ) (i : ℕ) → let c = burstCall t es o l in i < c .answer .taken → getD (c .list) i 0 ≡ r → ⊥
 

@@ -3,7 +3,6 @@
 use crate::BurstAnswer;
 use event::HEAD;
 use event::front;
-use octet::wide;
 use step::ROOM;
 use step::Refusal;
 use step::octets_in;
@@ -11,18 +10,16 @@ use step::refusal_in;
 use step::signals_in;
 use step::step;
 ghost use mathlib.Core.Path.{_≡_};
-ghost use mathlib.Core.Bool.{cond, false, _&&_};
-ghost use Prim.Native.Nat.{_+_, _≤_};
-ghost use lib.ListN.{length, drop};
-ghost use Rattle.event.specs.Frame.{headOctets, lengthAt};
+ghost use mathlib.Core.Bool.{false};
+ghost use Prim.Native.Nat.{_≤_};
+ghost use lib.Dec.{ltb};
+ghost use lib.ListN.{length};
 ghost use Rattle.event.specs.EndToEnd.{frames};
-ghost use Rattle.step.specs.declared.Refusal as declared;
-ghost use Rattle.step.specs.Checks.{number};
 ghost use Rattle.step.specs.Step.{badTable};
-ghost use Rattle.sscf.specs.Burst.{singly, bursting, came};
+ghost use Rattle.sscf.specs.Burst.{singly, bursting, brokenAt, came};
 
 // How many sound frames stand before the first broken one.
-pub fn frames(events: &[u8]) -> usize
+fn frames(events: &[u8]) -> usize
     ensures { λ r. ⌜ r ≡ length (frames (now (events .entry))) ⌝ }
 {
     let mut at = 0;
@@ -37,41 +34,45 @@ pub fn frames(events: &[u8]) -> usize
     }
 }
 
-// The end of the frame that begins at `at`.
-fn end_of(events: &[u8], at: usize) -> usize
-    requires { ⌜ at + (headOctets + lengthAt (drop at (now events))) ≤ length (now events) ⌝ }
-    ensures { λ r. ⌜ r ≡ at + (headOctets + lengthAt (drop at (now (events .entry)))) ⌝ }
+// Whether a list is too short for them. One with a place for every twelve octets never is, and then they are not counted: each frame alone tells where the next begins,
+// so a walk of its own takes longer than its instructions do (D88).
+pub fn short_list(places: usize, events: &[u8]) -> bool
+    ensures { λ r. ⌜ r ≡ ltb places (length (frames (now (events .entry)))) ⌝ }
 {
-    at + HEAD + wide(events[at + 10], events[at + 11]) as usize
+    if events.len() / HEAD <= places {
+        return false;
+    }
+    places < frames(events)
 }
 
-// Past all sound frames stands the end of the events or a broken frame, which is told.
-fn broken(all: bool, left: bool) -> u32
-    ensures { λ r. ⌜ r ≡ cond (all && left) (number declared.Refusal.Frame) 0 ⌝ }
+// What is told of the place where a burst has stopped.
+fn broken(rest: &[u8]) -> u32
+    ensures { λ r. ⌜ r ≡ brokenAt (now (rest .entry)) ⌝ }
 {
-    if all && left {
+    if rest.len() == 0 {
+        return 0;
+    }
+    if front(rest) == 0 {
         return Refusal::Frame.number();
     }
     0
 }
 
-// Makes the calls of n sound frames, as long as there is room, and lists their refusals.
-pub fn run(
-    table: &mut [u8],
-    events: &[u8],
-    out: &mut [u8],
-    list: &mut [u32],
-    n: usize,
-) -> BurstAnswer
-    requires { ⌜ (badTable (now table) ≡ false) × (n ≡ length (frames (now events))) × (n ≤ length (now list)) ⌝ }
+// Makes the calls of the sound frames, as long as there is room, and lists their refusals.
+pub fn run(table: &mut [u8], events: &[u8], out: &mut [u8], list: &mut [u32]) -> BurstAnswer
+    requires { ⌜ (badTable (now table) ≡ false) × (length (frames (now events)) ≤ length (now list)) ⌝ }
     ensures { λ r. ⌜ bursting r (now (table .exit)) (now (out .exit)) (now (list .exit)) ≡ came (singly (frames (now (events .entry))) (now (table .entry)) (now (out .entry))) (now (table .entry)) (now (events .entry)) (now (out .entry)) (now (list .entry)) ⌝ }
 {
     let mut taken = 0;
     let mut at = 0;
     let mut put = 0;
     let mut count = 0;
-    while taken < n && ROOM <= out.len() - put {
-        let end = end_of(events, at);
+    while ROOM <= out.len() - put {
+        let size = front(&events[at..]);
+        if size == 0 {
+            break;
+        }
+        let end = at + size;
         let told = step(table, &events[at..end], &mut out[put..]);
         list[taken] = refusal_in(told);
         put += octets_in(told) as usize;
@@ -81,7 +82,7 @@ pub fn run(
     }
     BurstAnswer {
         refusal: 0,
-        broken: broken(taken == n, at < events.len()),
+        broken: broken(&events[at..]),
         taken: taken,
         at: at,
         octets: put,

@@ -83,11 +83,10 @@ pub extern "C" fn sscf_burst(
     if bad_table(&table[..]) {
         return burst_refused(Refusal::Table);
     }
-    let n = burst::frames(events);
-    if refusals.len() < n {
+    if burst::short_list(refusals.len(), events) {
         return burst_refused(Refusal::List);
     }
-    burst::run(table, events, out, refusals, n)
+    burst::run(table, events, out, refusals)
 }
 
 // Writes a record over all of a table, as often as it has place.

@@ -1,4 +1,4 @@
--- What holds of the two calls on all octets. Each is shown for a refusal and for an acceptance. Assumes nothing.
+-- What holds of a step on all octets. Each is shown for a refusal and for an acceptance. Assumes nothing.
 use mathlib.Core.Path.{_≡_, refl, sym, ap, _∙_}
 use mathlib.Core.Bool.{Bool, true, false}
 use mathlib.Core.Logic.{_⊎_, inl, inr}
@@ -15,15 +15,17 @@ use Rattle.link.specs.declared.Signal.{Signal}
 use Rattle.link.specs.Step as machine
 use Rattle.octet.specs.Octets.{over, putAt}
 use Rattle.record.specs.LinkRecord.{wellFormed, octetsOf, GoodLink}
-use Rattle.event.specs.Frame.{linkAt, messageOf}
+use Rattle.event.specs.Frame.{EV, linkAt, messageOf}
 use Rattle.event.specs.EventRecord.{eventOf}
 use Rattle.signal.specs.SignalRecord.{joined}
+use Rattle.event.proofs.Frame.{sound, message-length}
+use Rattle.signal.proofs.SignalRecord.{joined-within}
 use Rattle.octet.proofs.Over.{length-over, over-front, over-rest, length-put, put-there, put-before, put-after}
 use Rattle.record.proofs.LinkRecord.{octets-length, packed-well, unpacked-good}
 use Rattle.step.specs.declared.Refusal.{Refusal}
 use Rattle.step.specs.Checks.{number}
 use Rattle.step.specs.Step.{recordAt, linkFor, checks, Outcome, answered, answering, refusedBy, performed, outcome, stepCall}
-use Rattle.step.specs.Untouched.{RefusalsUntouched, OthersUntouched, RestUntouched, AtMost4192, SameLengths, Refused4191, Taken4192, Written, AcceptedWritten, StaysWellFormed}
+use Rattle.step.specs.Untouched.{RefusalsUntouched, OthersUntouched, RestUntouched, AtMost4192, AtMostTwelvefold, SameLengths, Refused4191, Taken4192, Written, AcceptedWritten, StaysWellFormed}
 use Rattle.step.proofs.Places.{inside}
 use Rattle.step.proofs.Taken.{taken, Makes, made-after, room-for, step-accepted}
 
@@ -72,6 +74,14 @@ rest-untouched t e o =
 pub at-most-4192 : AtMost4192
 at-most-4192 t e o =
     either-way t e o (λ z. z .answer .octets ≤ 4192) (λ x. omega arith) (λ next signals p m. room-for t e (taken t e (length o) p .sound) m)
+
+pub at-most-twelvefold : AtMostTwelvefold
+at-most-twelvefold t e o =
+    either-way t e o (λ z. z .answer .octets ≤ 12 * length e) (λ x. omega arith)
+    (λ next signals p m.
+    let f = taken t e (length o) p .sound in
+    let a = made-after t e m in
+    omega (arith, joined-within (linkAt e) (messageOf e) signals (a .five) (a .one-message), message-length EV e f, sound EV e f .follows))
 
 pub same-lengths : SameLengths
 same-lengths t e o =

@@ -1,5 +1,5 @@
 -- What holds of a step on all octets, said plainly: what it leaves alone, and what it has written. All of it follows from Step.antt.
-use Prim.Native.Nat.{ℕ, _≤_}
+use Prim.Native.Nat.{ℕ, _*_, _≤_}
 use mathlib.Core.Path.{_≡_}
 use mathlib.Core.Bool.{true}
 use mathlib.Core.List.{List}
@@ -27,6 +27,10 @@ RestUntouched = (t e o : List ℕ) → drop (stepCall t e o .answer .octets) (st
 
 abbrev pub AtMost4192 : Type 0
 AtMost4192 = (t e o : List ℕ) → stepCall t e o .answer .octets ≤ 4192
+
+-- Nor do they ever take more than twelve times the event's own octets.
+abbrev pub AtMostTwelvefold : Type 0
+AtMostTwelvefold = (t e o : List ℕ) → stepCall t e o .answer .octets ≤ 12 * length e
 
 -- Table and output keep their lengths.
 abbrev pub SameLengths : Type 0

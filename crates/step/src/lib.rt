@@ -1,5 +1,5 @@
 // One event for one link of a good table: what the single call and the burst have in common. It has two callers and stays a function of its own, so its code is in
-// the archive once; and it answers by one number, since one number comes back in a register (D63).
+// the archive once; and it answers by one number, since one number comes back in a register (D88).
 mod checks;
 
 use checks::Plan;
@@ -49,7 +49,7 @@ const TABLE: usize = 4096;
 
 pub const ROOM: usize = 4192;
 
-// Check 1. Of the place of the last octet it is asked by one mask and one comparison (D63).
+// Check 1. Of the place of the last octet it is asked by one mask and one comparison (D88).
 pub fn bad_table(t: &[u8]) -> bool
     ensures { λ r. ⌜ r ≡ badTable (now (t .entry)) ⌝ }
 {
@@ -73,6 +73,7 @@ const SIGNALS: u64 = 256;
 
 const OCTETS: u64 = 4294967296;
 
+// Checks 2 to 9, and what Table 6 gives.
 pub fn step(table: &mut [u8], event: &[u8], out: &mut [u8]) -> u64
     requires { ⌜ badTable (now table) ≡ false ⌝ }
     ensures { λ n. ⌜ answering (toldBy n) (now (table .exit)) (now (out .exit)) ≡ stepCall (now (table .entry)) (now (event .entry)) (now (out .entry)) ⌝ }
@@ -92,6 +93,7 @@ pub fn step(table: &mut [u8], event: &[u8], out: &mut [u8]) -> u64
     }
 }
 
+// What stands in that number.
 pub fn refusal_in(n: u64) -> u32
     ensures { λ r. ⌜ r ≡ toldBy n .refusal ⌝ }
 {

@@ -2,11 +2,10 @@
 use mathlib.Core.Path.{_≡_, sym, _∙_}
 use mathlib.Core.Bool.{false}
 use mathlib.Core.List.{List}
-use Prim.Native.Nat.{_≤_, _<_}
-use native.Mathlib.Omega.{arith}
+use Prim.Native.Nat.{_≤_}
 use lib.ListN.{length}
 use borrow.Author.Needs.{needs}
-use borrow.Author.Tests.{lt-ltb}
+use borrow.Author.Tests.{ltb-false}
 use Rattle.event.specs.EndToEnd.{frames}
 use Rattle.step.specs.declared.Refusal.{Refusal}
 use Rattle.step.specs.Step.{badTable}
@@ -20,8 +19,8 @@ good : (c : tie.Else1) → badTable (c .before .before .before .before .before .
 good c = sym (c .before .bad-table .ensures) ∙ c .if1 .left
 
 -- past both
-places : (c : tie.Else2) → c .before .frames .result ≤ length (c .before .before .before .before .before .before .before .before .before .args .refusals .now)
-places c = omega (arith, c .if2 .left)
+places : (c : tie.Else2) → length (frames (c .before .before .before .before .before .before .before .before .before .args .events .now)) ≤ length (c .before .before .before .before .before .before .before .before .before .args .refusals .now)
+places c = ltb-false (length (c .before .before .before .before .before .before .before .before .before .args .refusals .now)) (length (frames (c .before .before .before .before .before .before .before .before .before .args .events .now))) (sym (c .before .short-list .ensures) ∙ c .if2 .left)
 
 bad-table-requires : tie.Need-bad-table-requires
 bad-table-requires c κs = search needs
@@ -38,8 +37,8 @@ returns c =
     (λ i. bursting (c .burst-refused .ensures i) (a .table .now) (a .out .now) (a .refusals .now))
     ∙ sym (burst-refused (a .table .now) (a .events .now) (a .out .now) (a .refusals .now) Refusal.Table (rw (sym (c .before .before .bad-table .ensures) ∙ c .before .if1 .taken)))
 
-frames-requires : tie.Need-frames-requires
-frames-requires c κs = search needs
+short-list-requires : tie.Need-short-list-requires
+short-list-requires c κs = search needs
 
 burst-refused-requires-2 : tie.Need-burst-refused-requires-2
 burst-refused-requires-2 c κs = search needs
@@ -50,12 +49,11 @@ same-length-2 c = search needs
 returns-2 : tie.Need-returns-2
 returns-2 c =
     let a = c .before .before .before .before .before .before .before .before .before .before .args in
-    let s : length (a .refusals .now) < length (frames (a .events .now)) = omega (arith, c .before .if2 .taken, c .before .before .frames .ensures) in
     (λ i. bursting (c .burst-refused2 .ensures i) (a .table .now) (a .out .now) (a .refusals .now))
-    ∙ sym (burst-refused (a .table .now) (a .events .now) (a .out .now) (a .refusals .now) Refusal.List (rw (good (c .before .before .before), lt-ltb (length (a .refusals .now)) (length (frames (a .events .now))) s)))
+    ∙ sym (burst-refused (a .table .now) (a .events .now) (a .out .now) (a .refusals .now) Refusal.List (rw (good (c .before .before .before), sym (c .before .before .short-list .ensures) ∙ c .before .if2 .taken)))
 
 run-requires : tie.Need-run-requires
-run-requires c κs = (good (c .before .before .before .before .before), c .before .before .before .before .frames .ensures, places (c .before .before .before))
+run-requires c κs = (good (c .before .before .before .before .before), places (c .before .before .before))
 
 same-length-3 : tie.Need-same-length-3
 same-length-3 c = search needs
@@ -71,7 +69,7 @@ returns-3 c =
     let a = c .before .before .before .before .before .before .before .before .before .before .before .before .before .before .before .before .before .before .before .args in
     c .before .before .before .before .before .before .run .ensures
     ∙ sym (burst-passed (a .table .now) (a .events .now) (a .out .now) (a .refusals .now) (both (a .table .now) (a .events .now) (a .out .now) (a .refusals .now)
-    (record { good = good (c .before .before .before .before .before .before .before .before .before .before .before .before); places = omega (arith, places (c .before .before .before .before .before .before .before .before .before .before), c .before .before .before .before .before .before .before .before .before .before .before .frames .ensures) })))
+    (record { good = good (c .before .before .before .before .before .before .before .before .before .before .before .before); places = places (c .before .before .before .before .before .before .before .before .before .before) })))
 
 pub sscf-burst-spec : {M : Type 1} → statement M
 sscf-burst-spec =
@@ -81,7 +79,7 @@ sscf-burst-spec =
     burst-refused-requires
     same-length
     returns
-    frames-requires
+    short-list-requires
     burst-refused-requires-2
     same-length-2
     returns-2

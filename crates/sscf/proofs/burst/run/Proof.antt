@@ -1,55 +1,73 @@
 -- `burst::run` meets its contract. Assumes nothing.
-use mathlib.Core.Path.{_≡_, _∙_}
+use mathlib.Core.Path.{_≡_, ap, _∙_}
+use mathlib.Core.Bool.{true, cond}
 use mathlib.Core.List.{List, []}
 use mathlib.Core.Logic.{⊎-elim}
 use Prim.Native.Nat.{ℕ, _+_, _-_, _≤_, _<_}
 use native.Mathlib.Omega.{arith}
 use lib.ListN.{length, drop}
 use borrow.Author.Needs.{needs}
-use borrow.Author.Tests.{leb-true, leb-false}
 use Rattle.event.specs.Frame.{lengthAt}
-use Rattle.event.specs.EndToEnd.{frames}
+use Rattle.event.specs.EndToEnd.{sound, frames}
 use Rattle.step.specs.declared.Answer.{Answer}
-use Rattle.sscf.specs.Burst.{singly}
+use Rattle.sscf.specs.Burst.{singly, brokenAt}
 use Rattle.step.specs.Plan.{toldBy}
-use Rattle.sscf.proofs.Singles.{Reached, begins, ends, none-left, no-room-left, told-broken, as-good, within, fits, few′, retold, turn}
+use Rattle.sscf.proofs.Singles.{rest-is, none-there, one-there, Reached, begins, ends, none-left, no-room-left, as-good, more, within, fits, few′, retold, turn}
 use Rattle.sscf.proofs.burst.run.Statement.{statement}
 use Rattle.sscf.proofs.burst.run.Tie as tie
 
 abbrev Inv-loop : tie.InvT-loop
-Inv-loop table₀ events out₀ list₀ n taken₀ at₀ put₀ count₀ table out list taken at put count = Reached table₀ events out₀ list₀ table out list taken at put count
+Inv-loop table₀ events out₀ list₀ taken₀ at₀ put₀ count₀ table out list taken at put count = Reached table₀ events out₀ list₀ table out list taken at put count
 
 abbrev μ-loop : tie.MeasureT-loop
-μ-loop table₀ events out₀ list₀ n taken₀ at₀ put₀ count₀ table out list taken at put count = length events - at
+μ-loop table₀ events out₀ list₀ taken₀ at₀ put₀ count₀ table out list taken at put count = length events - at
 
--- inside the loop: the events, where they are left, and that one stands there whole
-abbrev E : tie.Then1 Inv-loop μ-loop → List ℕ
-E c = c .before .before .before .before .before .before .before .args .events .now
+-- inside the loop: the events, and the frame that stands where they are left
+abbrev E : tie.After-front Inv-loop μ-loop → List ℕ
+E c = c .before .before .before .before .before .before .before .before .args .events .now
 
-more : (c : tie.Then1 Inv-loop μ-loop) → c .before .before .loop .taken < length (frames (E c))
-more c = omega (arith, c .before .loop-test .taken, c .before .before .before .before .before .before .before .pre .1)
+abbrev rest : tie.After-front Inv-loop μ-loop → List ℕ
+rest c = drop (c .before .before .before .loop .at) (E c)
 
-there : (c : tie.Then1 Inv-loop μ-loop) → c .before .before .loop .at + (12 + lengthAt (drop (c .before .before .loop .at) (E c))) ≤ length (E c)
-there c = within (c .before .before .loop .inv) (more c)
+told : (c : tie.After-front Inv-loop μ-loop) → c .front .result ≡ cond (sound (rest c)) (12 + lengthAt (rest c)) 0
+told c = c .front .ensures ∙ ap (λ (l : List ℕ). cond (sound l) (12 + lengthAt l) 0) (rest-is (E c) (c .before .before .before .loop .at))
+
+-- it is sound, ends within the events, and has a place in the list
+here : (c : tie.Else1 Inv-loop μ-loop) → (sound (rest (c .before)) ≡ true) × (c .before .front .result ≡ 12 + lengthAt (rest (c .before)))
+here c = one-there (rest (c .before)) (c .before .front .result) (told (c .before)) (c .if1 .left)
+
+ends-at : (c : tie.Else1 Inv-loop μ-loop) → c .before .before .before .before .loop .at + c .before .front .result ≡ c .before .before .before .before .loop .at + (12 + lengthAt (rest (c .before)))
+ends-at c = omega (arith, here c .1)
+
+inside : (c : tie.Else1 Inv-loop μ-loop) → c .before .before .before .before .loop .at + c .before .front .result ≤ length (E (c .before))
+inside c = omega (arith, ends-at c, within (c .before .before .before .before .loop .inv) (here c .0))
 
 loop-holds : tie.Need-loop-holds Inv-loop μ-loop
 loop-holds c = begins _ _ _ _
 
-sub-if1 : tie.Need-sub-if1 Inv-loop μ-loop
-sub-if1 c = omega (arith, c .before .loop .inv .put-in, c .before .loop .inv .same-o)
+sub-loop : tie.Need-sub-loop Inv-loop μ-loop
+sub-loop c = omega (arith, c .loop .inv .put-in, c .loop .inv .same-o)
 
-end-of-requires : tie.Need-end-of-requires Inv-loop μ-loop
-end-of-requires c κs = there c
+sub-front : tie.Need-sub-front Inv-loop μ-loop
+sub-front c = c .before .loop .inv .at-in
 
--- where it ends
-inside : (c : tie.After-end-of Inv-loop μ-loop) → c .end-of .result ≤ length (E (c .before))
-inside c = omega (arith, c .end-of .ensures, there (c .before))
+part-front-start : tie.Need-part-front-start Inv-loop μ-loop
+part-front-start c = c .before .loop .inv .at-in
+
+part-front-end : tie.Need-part-front-end Inv-loop μ-loop
+part-front-end c = search needs
+
+front-requires : tie.Need-front-requires Inv-loop μ-loop
+front-requires c κs = search needs
+
+add-end : tie.Need-add-end Inv-loop μ-loop
+add-end c = omega (arith, inside c)
 
 sub-step : tie.Need-sub-step Inv-loop μ-loop
-sub-step c = omega (arith, c .before .end-of .ensures)
+sub-step c = search needs
 
 part-step-start : tie.Need-part-step-start Inv-loop μ-loop
-part-step-start c = omega (arith, c .before .end-of .ensures)
+part-step-start c = search needs
 
 part-step-end : tie.Need-part-step-end Inv-loop μ-loop
 part-step-end c = omega (arith, inside (c .before))
@@ -64,16 +82,20 @@ part-step-end-2 : tie.Need-part-step-end-2 Inv-loop μ-loop
 part-step-end-2 c = search needs
 
 step-requires : tie.Need-step-requires Inv-loop μ-loop
-step-requires c κs = as-good (c .before .before .before .before .before .before .before .before .before .before .before .args .table .now) (c .before .before .before .before .before .before .loop .table) (c .before .before .before .before .before .before .loop .inv .same-t) (c .before .before .before .before .before .before .before .before .before .before .before .pre .0)
+step-requires c κs = as-good (c .before .before .before .before .before .before .before .before .before .before .before .before .args .table .now) (c .before .before .before .before .before .before .before .loop .table) (c .before .before .before .before .before .before .before .loop .inv .same-t) (c .before .before .before .before .before .before .before .before .before .before .before .before .pre .0)
 
 refusal-in-requires : tie.Need-refusal-in-requires Inv-loop μ-loop
 refusal-in-requires c κs = search needs
 
+-- it has a place in the list
+placed : (c : tie.Else1 Inv-loop μ-loop) → c .before .before .before .before .loop .taken < length (c .before .before .before .before .loop .list)
+placed c = omega (arith, more (c .before .before .before .before .loop .inv) (here c .0), c .before .before .before .before .loop .inv .same-l, c .before .before .before .before .before .before .before .before .before .pre .1)
+
 mul-list : tie.Need-mul-list Inv-loop μ-loop
-mul-list c = search needs
+mul-list c = let p = placed (c .before .before .before .before .before .before .before .before .before) in search needs
 
 slice-write-list : tie.Need-slice-write-list Inv-loop μ-loop
-slice-write-list c = omega (arith, c .before .before .before .before .before .before .before .before .before .before .before .loop-test .taken, c .before .before .before .before .before .before .before .before .before .before .before .before .loop .inv .same-l, c .before .before .before .before .before .before .before .before .before .before .before .before .before .before .before .before .before .pre .2)
+slice-write-list c = placed (c .before .before .before .before .before .before .before .before .before)
 
 octets-in-requires : tie.Need-octets-in-requires Inv-loop μ-loop
 octets-in-requires c κs = search needs
@@ -91,17 +113,11 @@ cast-count c = search needs
 abbrev A : tie.After-step Inv-loop μ-loop → Answer
 A c = toldBy (c .step .result)
 
-room : (c : tie.Then1 Inv-loop μ-loop) → 4192 ≤ length (c .before .before .loop .out) - c .before .before .loop .put
-room c = leb-true 4192 (length (c .before .before .loop .out) - c .before .before .loop .put) (c .if1 .taken)
+went : (c : tie.After-step Inv-loop μ-loop) → c .before .before .before .before .before .before .before .before .loop .put + A c .octets ≤ length (c .before .before .before .before .before .before .before .before .before .before .before .before .before .args .out .now)
+went c = fits (c .before .before .before .before .before .before .before .before .loop .inv) (here (c .before .before .before .before) .0) _ (ends-at (c .before .before .before .before)) (c .before .before .before .before .before .before .before .loop-test .taken) (c .before .before .before .before .before .before .before .before .before .before .before .before .before .pre .1) (A c) (c .step .last .0) (c .step .last .1 .1 .0) (c .step .ensures)
 
-places : (c : tie.Then1 Inv-loop μ-loop) → length (frames (E c)) ≤ length (c .before .before .before .before .before .before .before .args .list .now)
-places c = omega (arith, c .before .before .before .before .before .before .before .pre .1, c .before .before .before .before .before .before .before .pre .2)
-
-went : (c : tie.After-step Inv-loop μ-loop) → c .before .before .before .before .before .before .before .loop .put + A c .octets ≤ length (c .before .before .before .before .before .before .before .before .before .before .before .before .args .out .now)
-went c = fits (c .before .before .before .before .before .before .before .loop .inv) (more (c .before .before .before .before .before)) _ (c .before .before .before .before .end-of .ensures) (room (c .before .before .before .before .before)) (places (c .before .before .before .before .before)) (A c) (c .step .last .0) (c .step .last .1 .1 .0) (c .step .ensures)
-
-counts : (c : tie.After-step Inv-loop μ-loop) → c .before .before .before .before .before .before .before .loop .count + A c .signals ≤ c .before .before .before .before .before .before .before .loop .put + A c .octets
-counts c = few′ (c .before .before .before .before .before .before .before .loop .inv) (more (c .before .before .before .before .before)) _ (c .before .before .before .before .end-of .ensures) (room (c .before .before .before .before .before)) (places (c .before .before .before .before .before)) (A c) (c .step .last .0) (c .step .last .1 .1 .0) (c .step .ensures)
+counts : (c : tie.After-step Inv-loop μ-loop) → c .before .before .before .before .before .before .before .before .loop .count + A c .signals ≤ c .before .before .before .before .before .before .before .before .loop .put + A c .octets
+counts c = few′ (c .before .before .before .before .before .before .before .before .loop .inv) (here (c .before .before .before .before) .0) _ (ends-at (c .before .before .before .before)) (c .before .before .before .before .before .before .before .loop-test .taken) (c .before .before .before .before .before .before .before .before .before .before .before .before .before .pre .1) (A c) (c .step .last .0) (c .step .last .1 .1 .0) (c .step .ensures)
 
 add-put : tie.Need-add-put Inv-loop μ-loop
 add-put c = omega (arith, went (c .before .before .before .before .before .before), c .octets-in .ensures)
@@ -110,40 +126,52 @@ add-count : tie.Need-add-count Inv-loop μ-loop
 add-count c = omega (arith, went (c .before .before .before .before .before .before .before), counts (c .before .before .before .before .before .before .before), c .signals-in .ensures)
 
 add-taken : tie.Need-add-taken Inv-loop μ-loop
-add-taken c = omega (arith, c .before .before .before .before .before .before .before .before .before .before .before .before .before .loop-test .taken)
+add-taken c = let p = placed (c .before .before .before .before .before .before .before .before .before .before .before) in search needs
 
 loop-less : tie.Need-loop-less Inv-loop μ-loop
-loop-less c = omega (arith, inside (c .before .before .before .before .before .before .before .before .before .before .before), c .before .before .before .before .before .before .before .before .before .before .before .end-of .ensures)
+loop-less c = omega (arith, inside (c .before .before .before .before .before .before .before .before .before .before .before), here (c .before .before .before .before .before .before .before .before .before .before .before) .1)
 
 loop-again : tie.Need-loop-again Inv-loop μ-loop
 loop-again c =
     let s = c .before .before .before .before .before .before .before in
-    let l = s .before .before .before .before .before .before .before .loop in
-    let t = turn (l .inv) (more (s .before .before .before .before .before)) _ (s .before .before .before .before .end-of .ensures) (room (s .before .before .before .before .before)) (places (s .before .before .before .before .before)) (A s) (s .step .last .0) (s .step .last .1 .1 .0) (s .step .ensures) in
+    let l = s .before .before .before .before .before .before .before .before .loop in
+    let t = turn (l .inv) (here (s .before .before .before .before) .0) _ (ends-at (s .before .before .before .before)) (s .before .before .before .before .before .before .before .loop-test .taken) (s .before .before .before .before .before .before .before .before .before .before .before .before .before .pre .1) (A s) (s .step .last .0) (s .step .last .1 .1 .0) (s .step .ensures) in
     retold (l .list) (l .taken) (l .taken + 1) _ (l .put) (l .count) (c .before .before .refusal-in .ensures) (c .before .octets-in .ensures) (c .signals-in .ensures) t
 
 -- WHERE IT STOPS
 none : (c : tie.Left-loop Inv-loop μ-loop) → singly (frames (drop (c .before .loop .at) (c .before .before .before .before .before .before .args .events .now))) (c .before .loop .table) (drop (c .before .loop .put) (c .before .loop .out)) ≡ []
 none c =
-    ⊎-elim (λ x. no-room-left (c .before .loop .inv) (leb-false 4192 (length (c .before .loop .out) - c .before .loop .put) (x .1 .left)))
-    (λ y. none-left (c .before .loop .inv) (omega (arith, y .left, c .before .before .before .before .before .before .pre .1))) (c .loop-test .came)
+    let l = c .before .loop in
+    let es = c .before .before .before .before .before .before .args .events .now in
+    ⊎-elim (λ x. no-room-left (l .inv) (omega (arith, x .left)))
+    (λ y. none-left (drop (l .at) es) (l .table) (drop (l .put) (l .out)) (none-there (drop (l .at) es) (y .2 .result) (told (record { before = record { before = record { before = c .before; loop-test = y .0 }; front-arg = y .1 }; front = y .2 })) (y .3 .taken)))
+    (c .loop-test .came)
+
+sub-broken : tie.Need-sub-broken Inv-loop μ-loop
+sub-broken c = c .before .loop .inv .at-in
+
+part-broken-start : tie.Need-part-broken-start Inv-loop μ-loop
+part-broken-start c = c .before .loop .inv .at-in
+
+part-broken-end : tie.Need-part-broken-end Inv-loop μ-loop
+part-broken-end c = search needs
 
 broken-requires : tie.Need-broken-requires Inv-loop μ-loop
 broken-requires c κs = search needs
 
 same-length : tie.Need-same-length Inv-loop μ-loop
-same-length c = c .before .before .loop .inv .same-t
+same-length c = c .before .before .before .loop .inv .same-t
 
 same-length-2 : tie.Need-same-length-2 Inv-loop μ-loop
-same-length-2 c = c .before .before .loop .inv .same-o
+same-length-2 c = c .before .before .before .loop .inv .same-o
 
 same-length-3 : tie.Need-same-length-3 Inv-loop μ-loop
-same-length-3 c = c .before .before .loop .inv .same-l
+same-length-3 c = c .before .before .before .loop .inv .same-l
 
 returns : tie.Need-returns Inv-loop μ-loop
 returns c =
-    let l = c .before .before .loop in
-    ends (l .inv) (c .broken .result) (none (c .before)) (c .broken .ensures ∙ told-broken (l .inv) (c .before .before .before .before .before .before .before .args .n) (c .before .before .before .before .before .before .before .pre .1))
+    let l = c .before .before .before .loop in
+    ends (l .inv) (c .broken .result) (none (c .before .before)) (c .broken .ensures ∙ ap brokenAt (rest-is (c .before .before .before .before .before .before .before .before .args .events .now) (l .at)))
 
 pub run-spec : {M : Type 1} → statement M
 run-spec =
@@ -152,8 +180,12 @@ run-spec =
     Inv-loop
     μ-loop
     loop-holds
-    sub-if1
-    end-of-requires
+    sub-loop
+    sub-front
+    part-front-start
+    part-front-end
+    front-requires
+    add-end
     sub-step
     part-step-start
     part-step-end
@@ -173,6 +205,9 @@ run-spec =
     add-taken
     loop-less
     loop-again
+    sub-broken
+    part-broken-start
+    part-broken-end
     broken-requires
     same-length
     same-length-2
