@@ -4,7 +4,7 @@ use mathlib.Core.Bool.{Bool, true, false, cond}
 use mathlib.Core.List.{List, [], _∷_, map}
 use Prim.Native.Nat.{ℕ, _*_, _/_, _≤_, _<_}
 use native.Mathlib.Omega.{arith}
-use lib.Dec.{eqb, ltb}
+use lib.Dec.{eqb}
 use lib.ListN.{length}
 use borrow.Author.Tests.{eqb-true, eqb-false}
 use Rattle.link.specs.declared.Link.{Link}
@@ -29,26 +29,21 @@ use Rattle.step.proofs.Untouched.{either-way, number-above, refusals-untouched,
 use Rattle.sscf.proofs.Copies.{length-copies}
 use Rattle.sscf.proofs.AllFresh.{all-fresh}
 use Rattle.event.specs.EndToEnd.{frames}
-use Rattle.sscf.specs.Burst as calls
-use Rattle.sscf.specs.Burst.{left, Single, singly, burstChecks, singles}
+use Rattle.sscf.specs.Burst.{singly, burstChecks, callsBy, singles}
+use Rattle.sscf.proofs.Singles.{each-call}
 use Rattle.history.specs.Calls.{Call, fresh, step, burst, Seen, cut, signalsIn, World, made, stepped, each, next, run, AfterEachCall}
 use Rattle.history.specs.History.{Mark, with-signals, eventMark, marks, history}
 
 -- WHAT EACH STEP KEEPS a burst keeps, which is read as its single calls
 module _ (P : World → Type 0) (k : (w : World) (e o : List ℕ) → P w → P (stepped w e (stepCall (w .table) e o))) where
-  by-room : (w : World) (s : Single) (others : List Single) (b : Bool) → P w → P (each w (s ∷ others)) → P (each w (cond b [] (s ∷ others)))
-  by-room w s others true p q = p
-  by-room w s others false p q = q
+  each-keeps : (fs : List (List ℕ)) (t o : List ℕ) (w : World) → w .table ≡ t → P w → P (each w (singly fs t o))
+  each-keeps =
+      each-call (λ fs t o s. (w : World) → w .table ≡ t → P w → P (each w s)) (λ t o w h p. p) (λ e fs t o r w h p. p)
+      (λ e fs t o s r q w h p. q (stepped w e (stepCall t e o)) refl (subst (λ (x : List ℕ). P (stepped w e (stepCall x e o))) h (k w e o p)))
 
-  each-keeps : (fs : List (List ℕ)) (w : World) (o : List ℕ) → P w → P (each w (singly fs (w .table) o))
-  each-keeps [] w o p = p
-  each-keeps (e ∷ fs) w o p =
-      let c = stepCall (w .table) e o in
-      by-room w (record { event = e; after = c }) (singly fs (c .table) (left c)) (ltb (length o) 4192) p (each-keeps fs (stepped w e c) (left c) (k w e o p))
-
-  by-verdict : (w : World) (es o : List ℕ) (d : Verdict Refusal) → P w → P (each w (calls.made d (w .table) es o))
+  by-verdict : (w : World) (es o : List ℕ) (d : Verdict Refusal) → P w → P (each w (callsBy d (w .table) es o))
   by-verdict w es o (refused x) p = p
-  by-verdict w es o passed p = each-keeps (frames es) w o p
+  by-verdict w es o passed p = each-keeps (frames es) (w .table) o w refl p
 
   pub burst-keeps : (w : World) (es o l : List ℕ) → P w → P (next w (burst es o l))
   unfolding next singles

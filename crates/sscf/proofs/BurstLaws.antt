@@ -8,7 +8,7 @@ use native.Mathlib.Omega.{arith}
 use lib.Dec.{eqb, leb, ltb}
 use lib.ListN.{length, take, drop, getD, length-append, length-drop, take-append-drop, List·getD-append}
 use lib.Seq.{take-length, drop-length, length-take-le, take-append-le, drop-append-le, drop-append-add, drop-drop}
-use borrow.Author.Tests.{ltb-true, ltb-false, le-ltb, eqb-true, eqb-false}
+use borrow.Author.Tests.{le-ltb, eqb-true, eqb-false}
 use Rattle.unit.specs.Checks.{Verdict, passed, refused, first}
 use Rattle.octet.specs.Octets.{at, two, over}
 use Rattle.octet.proofs.Over.{length-over, over-front, over-rest}
@@ -26,7 +26,7 @@ use Rattle.step.specs.Step.{badTable, records, recordAt, unknown, idle, isIlleg
 use Rattle.sscf.specs.Burst.{written, left, Single, singly, eventsOf, numbersOf, writtenBy, signalsBy, tableAfter, BurstOutcome, bursting, burstAnswered, burstChecks, brokenAt, came, burstCall}
 use Rattle.sscf.specs.BurstLaws.{BurstRefusalsUntouched, BurstUntouched, BurstRestUntouched, NamedByNone, BurstOthersUntouched, OneEvent, Stops, StopsOnly, NoEvents, AlwaysRoom, AlwaysPlace, endToEnd, Events, then, together, SplitInTwo, BrokenStands, AskedBefore}
 use Rattle.step.proofs.Untouched.{number-above, same-lengths, rest-untouched, others-untouched, at-most-4192, at-most-twelvefold}
-use Rattle.sscf.proofs.Singles.{no-frame, a-frame, found, Found, found-one, few-frames, written-length, output-is, no-room, single, one-more, events-and, written-and, numbers-and, signals-and, table-and, numbers-length, broken-there, sound-there, as-good}
+use Rattle.sscf.proofs.Singles.{no-frame, a-frame, found, found-one, few-frames, written-length, output-is, no-room, single, one-more, each-call, events-and, written-and, numbers-and, signals-and, table-and, numbers-length, sound-there, as-good}
 use Rattle.sscf.proofs.BurstCall.{burst-refused, burst-passed, Open, both, either-burst}
 
 -- REFUSALS
@@ -46,19 +46,6 @@ burst-refusals-untouched t es o l =
     either-burst t es o l
     (λ c. 1 ≤ c .answer .refusal → ((c .answer .refusal ≡ 1) ⊎ (c .answer .refusal ≡ 13)) × (c ≡ bursting (burstAnswered (c .answer .refusal) 0 0 0 0 0) t o l))
     (λ x e h. (is-table-or-list t es l x e, refl)) (λ p h. absurd (omega arith))
-
--- THE SINGLE CALLS of frames are none, for want of frames or of room, or one and those behind it.
-module _ (P : List (List ℕ) → List ℕ → List ℕ → List Single → Type 0) (none : (t o : List ℕ) → P [] t o []) (short : (e : List ℕ) (fs : List (List ℕ)) (t o : List ℕ) → length o < 4192 → P (e ∷ fs) t o [])
-    (more : (e : List ℕ) (fs : List (List ℕ)) (t o : List ℕ) (s : List Single) → 4192 ≤ length o → P fs (stepCall t e o .table) (left (stepCall t e o)) s → P (e ∷ fs) t o (single t e o ∷ s)) where
-  by-room : (e : List ℕ) (fs : List (List ℕ)) (t o : List ℕ) (s : List Single) → P fs (stepCall t e o .table) (left (stepCall t e o)) s →
-      (b : Bool) → ltb (length o) 4192 ≡ b → P (e ∷ fs) t o (cond b [] (single t e o ∷ s))
-  by-room e fs t o s p true h = short e fs t o (ltb-true (length o) 4192 h)
-  by-room e fs t o s p false h = more e fs t o s (ltb-false (length o) 4192 h) p
-
-  each-call : (fs : List (List ℕ)) (t o : List ℕ) → P fs t o (singly fs t o)
-  each-call [] t o = none t o
-  each-call (e ∷ fs) t o =
-      by-room e fs t o (singly fs (stepCall t e o .table) (left (stepCall t e o))) (each-call fs (stepCall t e o .table) (left (stepCall t e o))) (ltb (length o) 4192) refl
 
 -- what one leaves of the output
 left-is : (t e o : List ℕ) → left (stepCall t e o) ≡ drop (length (written (stepCall t e o))) o

@@ -1,13 +1,13 @@
 -- A burst's single calls: how one more is added to those that are done. Assumes nothing.
 use mathlib.Core.Path.{_≡_, refl, sym, ap, _∙_}
-use mathlib.Core.Bool.{Bool, true, false, cond, _&&_, or-true}
+use mathlib.Core.Bool.{Bool, true, false, cond, or-true}
 use mathlib.Core.List.{List, [], _∷_, _++_, append-assoc, append-nil}
 use Prim.Native.Nat.{ℕ, zero, suc, _+_, _-_, _*_, _≤_, _<_}
 use native.Mathlib.Omega.{arith}
 use lib.Dec.{eqb, ltb}
 use lib.ListN.{length, take, drop, set, length-append, length-drop, length-set, take-append-drop}
 use lib.Seq.{take-all, length-take-le, drop-drop}
-use borrow.Author.Tests.{lt-ltb, le-ltb, ltb-true, ltb-false, eq-eqb, ne-eqb, eqb-true, eqb-false}
+use borrow.Author.Tests.{lt-ltb, le-ltb, ltb-true, ltb-false, ne-eqb}
 use Rattle.link.specs.declared.Signal.{Signal}
 use Rattle.octet.specs.Octets.{over, putAt}
 use Rattle.octet.proofs.Over.{length-over, over-rest, behind, lent}
@@ -127,6 +127,19 @@ single t e o = record { event = e; after = stepCall t e o }
 
 pub one-more : (fs : List (List ℕ)) (t e o : List ℕ) → 4192 ≤ length o → singly (e ∷ fs) t o ≡ single t e o ∷ singly fs (stepCall t e o .table) (left (stepCall t e o))
 one-more fs t e o h = rw (le-ltb (length o) 4192 h)
+
+-- THE SINGLE CALLS of frames are none, for want of frames or of room, or one and those behind it.
+module _ (P : List (List ℕ) → List ℕ → List ℕ → List Single → Type 0) (none : (t o : List ℕ) → P [] t o []) (short : (e : List ℕ) (fs : List (List ℕ)) (t o : List ℕ) → length o < 4192 → P (e ∷ fs) t o [])
+    (more : (e : List ℕ) (fs : List (List ℕ)) (t o : List ℕ) (s : List Single) → 4192 ≤ length o → P fs (stepCall t e o .table) (left (stepCall t e o)) s → P (e ∷ fs) t o (single t e o ∷ s)) where
+  by-room : (e : List ℕ) (fs : List (List ℕ)) (t o : List ℕ) (s : List Single) → P fs (stepCall t e o .table) (left (stepCall t e o)) s →
+      (b : Bool) → ltb (length o) 4192 ≡ b → P (e ∷ fs) t o (cond b [] (single t e o ∷ s))
+  by-room e fs t o s p true h = short e fs t o (ltb-true (length o) 4192 h)
+  by-room e fs t o s p false h = more e fs t o s (ltb-false (length o) 4192 h) p
+
+  pub each-call : (fs : List (List ℕ)) (t o : List ℕ) → P fs t o (singly fs t o)
+  each-call [] t o = none t o
+  each-call (e ∷ fs) t o =
+      by-room e fs t o (singly fs (stepCall t e o .table) (left (stepCall t e o))) (each-call fs (stepCall t e o .table) (left (stepCall t e o))) (ltb (length o) 4192) refl
 
 -- WHAT THEY COME TO, with some behind others
 pub events-and : (a b : List Single) → eventsOf (a ++ b) ≡ eventsOf a ++ eventsOf b

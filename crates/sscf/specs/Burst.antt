@@ -80,17 +80,17 @@ came done t es o l =
     bursting (burstAnswered 0 (brokenAt (drop at es)) (length done) at (length (writtenBy done)) (signalsBy done)) (tableAfter t done) (over (writtenBy done) o) (over (numbersOf done) l)
 
 -- The calls that a burst makes: none where it is refused.
-abbrev pub made : Verdict Refusal → List ℕ → List ℕ → List ℕ → List Single
-made (refused r) t es o = []
-made passed t es o = singly (frames es) t o
+abbrev pub callsBy : Verdict Refusal → List ℕ → List ℕ → List ℕ → List Single
+callsBy (refused r) t es o = []
+callsBy passed t es o = singly (frames es) t o
 
 unfoldable pub singles : List ℕ → List ℕ → List ℕ → List ℕ → List Single
-singles t es o l = made (first (burstChecks t es l)) t es o
+singles t es o l = callsBy (first (burstChecks t es l)) t es o
 
 -- A refusal has 0 in every other field and changes nothing.
 abbrev pub burst : Verdict Refusal → List ℕ → List ℕ → List ℕ → List ℕ → BurstOutcome
 burst (refused r) t es o l = bursting (burstAnswered (number r) 0 0 0 0 0) t o l
-burst passed t es o l = came (singly (frames es) t o) t es o l
+burst passed t es o l = came (callsBy passed t es o) t es o l
 
 unfoldable pub burstCall : List ℕ → List ℕ → List ℕ → List ℕ → BurstOutcome
 burstCall t es o l = burst (first (burstChecks t es l)) t es o l
