@@ -401,12 +401,9 @@ broken-stands t es others o l ev b = by (first (burstChecks t es l)) refl where
       (subst (AsWithout (came (singly (frames es) t o) t es o l))
       (sym (burst-passed t (es ++ others) o l (same-verdict ∙ h) ∙ ap (λ (fs : List (List ℕ)). came (singly fs t o) t (es ++ others) o l) same-frames)) refl)
 
--- ASKED BEFORE: of a good table, a sound frame and room, no single call is refused by 1, 2 or 9.
+-- ASKED BEFORE: of a good table, a sound frame and room, a single call answers 0 or 3 to 8.
 abbrev Late : ℕ → Type 0
-Late n = (n ≡ 1 → ⊥) × (n ≡ 2 → ⊥) × (n ≡ 9 → ⊥)
-
-late : (n : ℕ) → (n ≡ 0) ⊎ ((3 ≤ n) × (n ≤ 8)) → Late n
-late n = ⊎-elim (λ z. (λ h. omega (arith, z, h), λ h. omega (arith, z, h), λ h. omega (arith, z, h))) (λ m. (λ h. omega (arith, m .0, m .1, h), λ h. omega (arith, m .0, m .1, h), λ h. omega (arith, m .0, m .1, h)))
+Late n = (n ≡ 0) ⊎ ((3 ≤ n) × (n ≤ 8))
 
 abbrev Mid : Verdict Refusal → Type 0
 Mid passed = Unit {0}
@@ -429,12 +426,12 @@ mid t e room a b c =
 
 late-call : (t e o : List ℕ) → badTable t ≡ false → framed e ≡ true → 4192 ≤ length o → Late (stepCall t e o .answer .refusal)
 unfolding stepCall
-late-call t e o a b c = late (stepCall t e o .answer .refusal) (by-verdict (first (checks t e (length o))) (mid t e (length o) a b c)) where
-  by-cell : (w : machine.Outcome) → let z = performed w t (linkAt e) (messageOf e) o in (z .answer .refusal ≡ 0) ⊎ ((3 ≤ z .answer .refusal) × (z .answer .refusal ≤ 8))
+late-call t e o a b c = by-verdict (first (checks t e (length o))) (mid t e (length o) a b c) where
+  by-cell : (w : machine.Outcome) → let z = performed w t (linkAt e) (messageOf e) o in Late (z .answer .refusal)
   by-cell machine.Illegal = inr (omega arith, omega arith)
   by-cell (machine.Legal next signals) = inl refl
 
-  by-verdict : (v : Verdict Refusal) → Mid v → let z = outcome v t e o in (z .answer .refusal ≡ 0) ⊎ ((3 ≤ z .answer .refusal) × (z .answer .refusal ≤ 8))
+  by-verdict : (v : Verdict Refusal) → Mid v → let z = outcome v t e o in Late (z .answer .refusal)
   by-verdict (refused x) m = inr m
   by-verdict passed m = by-cell (machine.stepOf (linkFor t e) (eventOf e))
 
@@ -462,14 +459,11 @@ one-of [] i h a = absurd (omega (arith, h))
 one-of (n ∷ ns) zero h a = a .0
 one-of (n ∷ ns) (suc i) h a = one-of ns i (omega (arith, h)) (a .1)
 
-late-number : (t es o l : List ℕ) (i : ℕ) → i < burstCall t es o l .answer .taken → Late (getD (burstCall t es o l .list) i 0)
+pub asked-before : AskedBefore
 unfolding over
-late-number t es o l i =
+asked-before t es o l i =
     either-burst t es o l (λ c. i < c .answer .taken → Late (getD (c .list) i 0)) (λ x e h. absurd (omega (arith, h)))
     (λ p h.
     let ns = numbersOf (singly (frames es) t o) in
     let k : i < length ns = omega (arith, h, numbers-length (singly (frames es) t o)) in
     subst Late (sym (List·getD-append ns (drop (length ns) l) 0 i k)) (one-of ns i k (all-late (frames es) t o (p .good) (all-framed (frames es) es refl))))
-
-pub asked-before : AskedBefore
-asked-before = (λ t es o l i h. late-number t es o l i h .0, λ t es o l i h. late-number t es o l i h .1, λ t es o l i h. late-number t es o l i h .2)

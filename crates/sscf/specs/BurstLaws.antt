@@ -100,9 +100,6 @@ BrokenStands =
     (t es others o l : List ℕ) → Events es → sound others ≡ false → let a = burstCall t es o l in let c = burstCall t (es ++ others) o l in
     c ≡ bursting (burstAnswered (a .answer .refusal) (c .answer .broken) (a .answer .taken) (a .answer .at) (a .answer .octets) (a .answer .signals)) (a .table) (a .output) (a .list)
 
--- NO EVENT THAT IS TAKEN IS REFUSED BY 9, nor by 1 or 2: table, frame and room are asked before.
-abbrev pub NeverRefusedBy : ℕ → Type 0
-NeverRefusedBy r = (t es o l : List ℕ) (i : ℕ) → let c = burstCall t es o l in i < c .answer .taken → getD (c .list) i 0 ≡ r → ⊥
-
+-- EVERY NUMBER THAT THE LIST TAKES is 0 or 3 to 8: table, frame and room are asked before.
 abbrev pub AskedBefore : Type 0
-AskedBefore = NeverRefusedBy 1 × NeverRefusedBy 2 × NeverRefusedBy 9
+AskedBefore = (t es o l : List ℕ) (i : ℕ) → let c = burstCall t es o l in let n = getD (c .list) i 0 in i < c .answer .taken → (n ≡ 0) ⊎ ((3 ≤ n) × (n ≤ 8))
