@@ -155,7 +155,7 @@ extern "C" {
 #define SSCF_USER_MESSAGE_OCTETS_MIN 5 /* the peer takes four for a unit */
 #define SSCF_UNIT_OCTETS 4             /* an SSCF unit */
 #define SSCF_SIGNALS_MAX 8             /* signals from one event */
-#define SSCF_OUTPUT_OCTETS 4192        /* what a step asks for, 8 x 12 + 4,096; for a burst more */
+#define SSCF_OUTPUT_OCTETS 4192        /* what a step asks for, 8 x 12 + 4,096; more is fine */
 #define SSCF_N1_DEFAULT 1000           /* proving units of normal proving, Q.2140's default */
 
 /*
@@ -413,8 +413,8 @@ enum sscf_report_reason { /* octet 8 */
  * REFUSALS
  *
  * Each is given exactly where it is listed, and the checks are made in this order: where several
- * things are wrong the lowest number is answered. 13 is of a burst alone, see there; 10 to 12 are
- * not given.
+ * things are wrong the lowest number is answered. 13 is of a burst alone, which tells 2 beside it
+ * and gives no 9, see there; 10 to 12 are not given.
  *
  * 1 to 6, 9 and 13 are faults of the host: a wrong length, an event written wrong, a record that
  * something else wrote into. The same call is refused again, so they are to be logged and mended.
@@ -523,7 +523,8 @@ struct sscf_answer sscf_step(uint8_t *table, size_t table_octets,
  * - The end of the events.
  * - A broken frame, which is told, and asks for no room: `broken` is SSCF_REFUSED_FRAME. It has no
  *   number in refusals, and neither it nor anything behind it is taken. Nothing in it tells where
- *   the next event begins.
+ *   the next event begins. It alone is refused: what stands before it is done, and not to be handed
+ *   in again.
  * - An event, to be accepted or refused, for which fewer than SSCF_OUTPUT_OCTETS are left of out.
  *   So none is refused as SSCF_REFUSED_OUTPUT. The host goes on there, with out empty again.
  *
@@ -540,12 +541,13 @@ struct sscf_answer sscf_step(uint8_t *table, size_t table_octets,
  *
  * What may stand in one buffer. The signals are handed on when the burst has returned, so no event
  * can be an answer to one of them, and meanwhile the table is as the last event taken left it. One
- * event for each link is always right. Of several for one link the host sees to it, as above and
- * for the whole buffer, also where want of room splits it, that there is
+ * event for each link is always right. Of several for one link two things that the host sees to, of
+ * late expiries and of what SSCOP said before a RELEASE_REQUEST, become these rules of the whole
+ * buffer, also where want of room splits it:
  *
- * - no expiry behind an event that sets its timer anew, so never two of T3;
- * - no event 16 to 22 behind two others of which the first gives RELEASE_REQUEST and a later one
- *   ESTABLISH_REQUEST.
+ * - No expiry stands behind an event that sets its timer anew, so never two of T3.
+ * - No event 16 to 22 stands behind two others of which the first gives RELEASE_REQUEST and a later
+ *   one ESTABLISH_REQUEST.
  *
  * At a restart, with the events and their octets in a buffer of the host's:
  *
@@ -559,7 +561,7 @@ struct sscf_answer sscf_step(uint8_t *table, size_t table_octets,
  *         if (answer.refusal != SSCF_ACCEPTED)
  *             return give_up(answer.refusal);
  *         hand_on_burst(out, answer.octets);
- *         look_at_refusals(events + begin, refusals, answer.taken);
+ *         look_at_refusals(events + begin, answer.at, refusals);
  *         begin += answer.at;
  *         if (answer.broken != 0)
  *             return give_up(answer.broken);

@@ -20,7 +20,7 @@ pub const HEAD: usize = 12;
 
 pub const MESSAGE: u16 = 4096;
 
-// The octets of the longest record.
+// The octets of the longest record: head and message.
 const LONGEST: usize = 4108;
 
 // The mark of an event.

@@ -1,6 +1,6 @@
 -- What holds of a burst on all octets. Assumes nothing.
 use mathlib.Core.Path.{_≡_, refl, sym, ap, subst, _∙_}
-use mathlib.Core.Bool.{Bool, true, false, cond, not, _||_}
+use mathlib.Core.Bool.{Bool, true, false, cond, not, _||_, true≢false}
 use mathlib.Core.Logic.{_⊎_, inl, inr, ⊎-elim}
 use mathlib.Core.List.{List, [], _∷_, _++_, append-assoc, append-nil, append-cancel-left}
 use Prim.Native.Nat.{ℕ, zero, suc, _+_, _-_, _*_, _≤_, _<_}
@@ -22,10 +22,11 @@ use Rattle.event.proofs.Frame as frame
 use Rattle.event.proofs.EndToEnd.{well-formed, sound-is-well-formed, broken}
 use Rattle.step.specs.declared.Refusal.{Refusal}
 use Rattle.step.specs.Checks.{number}
-use Rattle.step.specs.Step.{badTable, records, recordAt, unknown, idle, isIllegal, linkFor, checks, performed, outcome, stepCall}
+use Rattle.step.specs.Step.{badTable, records, recordAt, unknown, idle, isIllegal, linkFor, checks, Outcome, performed, outcome, stepCall}
 use Rattle.sscf.specs.Burst.{written, left, Single, singly, eventsOf, numbersOf, writtenBy, signalsBy, tableAfter, BurstOutcome, bursting, burstAnswered, burstChecks, brokenAt, came, burstCall}
-use Rattle.sscf.specs.BurstLaws.{BurstRefusalsUntouched, BurstUntouched, BurstRestUntouched, NamedByNone, BurstOthersUntouched, OneEvent, Stops, StopsOnly, NoEvents, AlwaysRoom, AlwaysPlace, endToEnd, Events, then, together, SplitInTwo, BrokenStands, AskedBefore}
+use Rattle.sscf.specs.BurstLaws.{BurstRefusalsUntouched, BurstUntouched, BurstRestUntouched, NamedByNone, BurstOthersUntouched, OneEvent, Stops, StopsOnly, NoEvents, AlwaysRoom, AlwaysPlace, endToEnd, Events, then, together, SplitInTwo, BrokenStands, BrokenRefused, AskedBefore}
 use Rattle.step.proofs.Untouched.{number-above, same-lengths, rest-untouched, others-untouched, at-most-4192, at-most-twelvefold}
+use Rattle.step.proofs.Taken.{step-refused}
 use Rattle.sscf.proofs.Singles.{no-frame, a-frame, found, found-one, few-frames, written-length, output-is, no-room, single, one-more, each-call, events-and, written-and, numbers-and, signals-and, table-and, numbers-length, sound-there, as-good}
 use Rattle.sscf.proofs.BurstCall.{burst-refused, burst-passed, Open, both, either-burst}
 
@@ -400,6 +401,27 @@ broken-stands t es others o l ev b = by (first (burstChecks t es l)) refl where
       subst (λ (a : BurstOutcome). AsWithout a (burstCall t (es ++ others) o l)) (sym (burst-passed t es o l h))
       (subst (AsWithout (came (singly (frames es) t o) t es o l))
       (sym (burst-passed t (es ++ others) o l (same-verdict ∙ h) ∙ ap (λ (fs : List (List ℕ)). came (singly fs t o) t (es ++ others) o l) same-frames)) refl)
+
+-- THE FRAME ALONE: what is not sound at the front is no event by itself
+not-framed : (es : List ℕ) → sound es ≡ false → framed es ≡ false
+not-framed es s = by (framed es) refl where
+  by : (b : Bool) → framed es ≡ b → b ≡ false
+  by true f = absurd (true≢false (sym (ap framed (front-is es f) ∙ f) ∙ s))
+  by false f = refl
+
+pub broken-refused : BrokenRefused
+broken-refused t es o l p h b =
+    let w = open-of t es o l h in
+    let c = burstCall t es o l in
+    let good = as-good t (c .table) (burst-rest-untouched t es o l .lengths .0) (w .good) in
+    let f = not-framed (drop (c .answer .at) es) (told (stops-only t es o l h .why)) in
+    ap (λ (z : Outcome). z .answer .refusal) (step-refused (c .table) (drop (c .answer .at) es) p Refusal.Frame (rw (good, f)))
+  where
+    told : ((burstCall t es o l .answer .at ≡ length es) × (burstCall t es o l .answer .broken ≡ 0))
+        ⊎ (((burstCall t es o l .answer .at < length es) × (sound (drop (burstCall t es o l .answer .at) es) ≡ false) × (burstCall t es o l .answer .broken ≡ 2))
+        ⊎ ((sound (drop (burstCall t es o l .answer .at) es) ≡ true) × (length o - burstCall t es o l .answer .octets < 4192) × (burstCall t es o l .answer .broken ≡ 0)))
+        → sound (drop (burstCall t es o l .answer .at) es) ≡ false
+    told = ⊎-elim (λ x. absurd (omega (arith, b, x .1))) (⊎-elim (λ y. y .1) (λ z. absurd (omega (arith, b, z .2))))
 
 -- ASKED BEFORE: of a good table, a sound frame and room, a single call answers 0 or 3 to 8.
 abbrev Late : ℕ → Type 0

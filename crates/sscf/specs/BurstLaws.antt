@@ -41,8 +41,8 @@ OneEvent =
     (t e o l : List ℕ) (n : ℕ) → badTable t ≡ false → framed e ≡ true → outputOctets ≤ length o → let c = stepCall t e o in
     burstCall t e o (n ∷ l) ≡ bursting (burstAnswered 0 0 1 (length e) (c .answer .octets) (c .answer .signals)) (c .table) (c .output) (c .answer .refusal ∷ l)
 
--- IT STOPS at the end; else at a broken frame, which is told, whatever room there is; else, before a sound one, for want of room. So early only for want of room or
--- at a broken frame. `at` is in octets of the events, and those behind it are the events that were not taken: there a host goes on.
+-- A burst that is not refused STOPS at the end; else at a broken frame, which is told, whatever room there is; else, before a sound one, for want of room. So early
+-- only for want of room or at a broken frame. `at` is in octets of the events, and those behind it are the events that were not taken: there a host goes on.
 pub record Stops (es o : List ℕ) (c : BurstOutcome) : Type 0 where
   pub inside : c .answer .at ≤ length es
   pub others : frames (drop (c .answer .at) es) ≡ drop (c .answer .taken) (frames es)
@@ -58,7 +58,7 @@ StopsOnly = (t es o l : List ℕ) → burstCall t es o l .answer .refusal ≡ 0 
 abbrev pub NoEvents : Type 0
 NoEvents = (t o l : List ℕ) → badTable t ≡ false → burstCall t [] o l ≡ bursting (burstAnswered 0 0 0 0 0 0) t o l
 
--- With 4,192 octets of output and twelve times those of the events beside them it takes all of them.
+-- With 4,192 octets of output and twelve times those of the events beside them it takes all sound ones before the first broken frame.
 abbrev pub AlwaysRoom : Type 0
 AlwaysRoom = (t es o l : List ℕ) → burstCall t es o l .answer .refusal ≡ 0 → outputOctets + 12 * length es ≤ length o → burstCall t es o l .answer .taken ≡ length (frames es)
 
@@ -86,7 +86,8 @@ together a b =
     (take (a .answer .octets) (a .output) ++ b .output)
     (take (a .answer .taken) (a .list) ++ b .list)
 
--- Where the first takes all its events, both give together what the whole gives. Where it stops for want of room, so does the whole, and gives what the first gives.
+-- Of a whole that is not refused: where the first takes all its events, both give together what the whole gives. Where it stops for want of room, so does the whole,
+-- and gives what the first gives.
 abbrev pub SplitInTwo : Type 0
 SplitInTwo =
     (t es others o l : List ℕ) → Events es → burstCall t (es ++ others) o l .answer .refusal ≡ 0 → let a = burstCall t es o l in
@@ -99,6 +100,12 @@ abbrev pub BrokenStands : Type 0
 BrokenStands =
     (t es others o l : List ℕ) → Events es → sound others ≡ false → let a = burstCall t es o l in let c = burstCall t (es ++ others) o l in
     c ≡ bursting (burstAnswered (a .answer .refusal) (c .answer .broken) (a .answer .taken) (a .answer .at) (a .answer .octets) (a .answer .signals)) (a .table) (a .output) (a .list)
+
+-- THE 2 IS A REFUSAL OF THAT FRAME: handed to the single call, with all that is behind it and any output, it is refused by 2.
+abbrev pub BrokenRefused : Type 0
+BrokenRefused =
+    (t es o l p : List ℕ) → let c = burstCall t es o l in
+    c .answer .refusal ≡ 0 → c .answer .broken ≡ 2 → stepCall (c .table) (drop (c .answer .at) es) p .answer .refusal ≡ 2
 
 -- EVERY NUMBER THAT THE LIST TAKES is 0 or 3 to 8: table, frame and room are asked before.
 abbrev pub AskedBefore : Type 0

@@ -34,8 +34,8 @@ fn frames(events: &[u8]) -> usize
     }
 }
 
-// Whether a list is too short for them. One with a place for every twelve octets never is, and then they are not counted: each frame alone tells where the next begins,
-// so a walk of its own takes longer than its instructions do (D88).
+// Whether a list is too short for them. One with a place for every twelve octets never is, and then they are not counted: a walk from frame to frame waits at each for
+// the length that tells where the next begins (D88).
 pub fn short_list(places: usize, events: &[u8]) -> bool
     ensures { λ r. ⌜ r ≡ ltb places (length (frames (now (events .entry)))) ⌝ }
 {
