@@ -7,7 +7,7 @@ use Prim.Native.Nat.{ℕ, zero, suc, _+_, _-_, _*_, _≤_, _<_}
 use native.Mathlib.Omega.{arith}
 use lib.Dec.{eqb, leb, ltb}
 use lib.ListN.{length, take, drop, getD, length-append, length-drop, take-append-drop, List·getD-append}
-use lib.Seq.{take-length, drop-length, length-take-le, take-append-le, drop-append-le, drop-append-add, drop-drop}
+use lib.Seq.{take-length, drop-length, take-append-le, drop-append-le, drop-append-add, drop-drop}
 use borrow.Author.Tests.{le-ltb, eqb-true, eqb-false}
 use Rattle.unit.specs.Checks.{Verdict, passed, refused, first}
 use Rattle.octet.specs.Octets.{at, two, over}
@@ -27,7 +27,7 @@ use Rattle.sscf.specs.Burst.{written, left, Single, singly, eventsOf, nu
 use Rattle.sscf.specs.BurstLaws.{BurstRefusalsUntouched, BurstUntouched, BurstRestUntouched, NamedByNone, BurstOthersUntouched, OneEvent, Stops, StopsOnly, NoEvents, AlwaysRoom, AlwaysPlace, endToEnd, Events, then, together, SplitInTwo, BrokenStands, BrokenRefused, AskedBefore}
 use Rattle.step.proofs.Untouched.{number-above, same-lengths, rest-untouched, others-untouched, at-most-4192, at-most-twelvefold}
 use Rattle.step.proofs.Taken.{step-refused}
-use Rattle.sscf.proofs.Singles.{no-frame, a-frame, found, found-one, few-frames, written-length, output-is, no-room, single, one-more, each-call, events-and, written-and, numbers-and, signals-and, table-and, numbers-length, sound-there, as-good}
+use Rattle.sscf.proofs.Singles.{no-frame, a-frame, front-long, found, found-one, few-frames, written-length, output-is, no-room, single, one-more, each-call, events-and, written-and, numbers-and, signals-and, table-and, numbers-length, sound-there, as-good}
 use Rattle.sscf.proofs.BurstCall.{burst-refused, burst-passed, Open, both, either-burst}
 
 -- REFUSALS
@@ -107,8 +107,6 @@ burst-others-untouched t es o l k =
     either-burst t es o l (λ c. NamedByNone k (take (c .answer .taken) (frames es)) → recordAt (c .table) k ≡ recordAt t k) (λ x e h. refl) (λ p. others k (frames es) t o)
 
 -- THE FRAMES of octets
-front-long : (es : List ℕ) → sound es ≡ true → length (front es) ≡ 12 + lengthAt es
-front-long es s = length-take-le (12 + lengthAt es) es (well-formed es s .within)
 
 -- those from the j-th on
 record From (es : List ℕ) (fs : List (List ℕ)) (j : ℕ) : Type 0 where

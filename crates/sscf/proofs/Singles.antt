@@ -25,6 +25,10 @@ use Rattle.step.proofs.Untouched.{either-way, same-lengths, rest-untouched, at-
 
 -- THE FRAMES, as the code finds them
 
+-- the first: its head of twelve octets and its message
+pub front-long : (es : List ℕ) → sound es ≡ true → length (front es) ≡ 12 + lengthAt es
+front-long es s = length-take-le (12 + lengthAt es) es (well-formed es s .within)
+
 -- a part from i to the end
 pub rest-is : (l : List ℕ) (i : ℕ) → take (length l - i) (drop i l) ≡ drop i l
 rest-is l i = take-all (length l - i) (drop i l) (simp length-drop (omega arith))
@@ -268,9 +272,6 @@ module _ {t₀ es o₀ l₀ t o l : List ℕ} {n at put count : ℕ} (r : Reache
   pub within : at + (12 + lengthAt (drop at es)) ≤ length es
   within = omega (arith, well-formed (drop at es) here .within, length-drop at es, r .at-in)
 
-  front-long : length (front (drop at es)) ≡ 12 + lengthAt (drop at es)
-  front-long = length-take-le (12 + lengthAt (drop at es)) (drop at es) (well-formed (drop at es) here .within)
-
   module _ (end : ℕ) (end-is : end ≡ at + (12 + lengthAt (drop at es))) (room : 4192 ≤ length o - put) (places : length (frames es) ≤ length l₀) (a : Answer) (t′ y : List ℕ)
       (q : answering a t′ y ≡ stepCall t (take (end - at) (drop at es)) (take (length o - put) (drop put o))) where
     abbrev pub C : Outcome
@@ -299,13 +300,13 @@ module _ {t₀ es o₀ l₀ t o l : List ℕ} {n at put count : ℕ} (r : Reache
     written-is : writtenBy done′ ≡ writtenBy (r .done) ++ written C
     written-is = written-and (r .done) (S ∷ []) ∙ ap (λ (w : List ℕ). writtenBy (r .done) ++ w) (append-nil (written C))
 
-    pub put-is′ : put + a .octets ≡ length (writtenBy done′)
+    put-is′ : put + a .octets ≡ length (writtenBy done′)
     put-is′ = omega (arith, r .put-is, octets-long, length-append (writtenBy (r .done)) (written C), ap length written-is)
 
-    pub fits : put + a .octets ≤ length o₀
+    fits : put + a .octets ≤ length o₀
     fits = omega (arith, room, r .same-o, ap (λ (b : Answer). b .octets) answer-is, at-most-4192 t (front (drop at es)) (drop put o))
 
-    pub few′ : count + a .signals ≤ put + a .octets
+    few′ : count + a .signals ≤ put + a .octets
     few′ =
         omega (arith, r .few, no-more-signals t (front (drop at es)) (drop put o), ap (λ (b : Answer). b .octets) answer-is, ap (λ (b : Answer). b .signals) answer-is)
 
@@ -358,7 +359,7 @@ module _ {t₀ es o₀ l₀ t o l : List ℕ} {n at put count : ℕ} (r : Reache
           whole = whole′;
           others = omega (arith, r .others, ap length frames-are);
           taken-is = omega (arith, r .taken-is, length-append (r .done) (S ∷ []));
-          at-is = end-is ∙ omega (arith, r .at-is, front-long, ap length (events-and (r .done) (S ∷ [])), length-append (eventsOf (r .done)) (front (drop at es) ++ []), length-append (front (drop at es)) []);
+          at-is = end-is ∙ omega (arith, r .at-is, front-long (drop at es) here, ap length (events-and (r .done) (S ∷ [])), length-append (eventsOf (r .done)) (front (drop at es) ++ []), length-append (front (drop at es)) []);
           put-is = put-is′;
           count-is = omega (arith, r .count-is, ap (λ (b : Answer). b .signals) answer-is, signals-and (r .done) (S ∷ []));
           table-is = ap (λ (z : Outcome). z .table) same ∙ sym (table-and t₀ (r .done) (S ∷ []));

@@ -1,18 +1,18 @@
 -- `burst::run` meets its contract. Assumes nothing.
 use mathlib.Core.Path.{_≡_, ap, _∙_}
 use mathlib.Core.Bool.{true, cond}
-use mathlib.Core.List.{List, []}
+use mathlib.Core.List.{List, [], _++_}
 use mathlib.Core.Logic.{⊎-elim}
 use Prim.Native.Nat.{ℕ, _+_, _-_, _≤_, _<_}
 use native.Mathlib.Omega.{arith}
-use lib.ListN.{length, drop}
+use lib.ListN.{length, take, drop, set}
 use borrow.Author.Needs.{needs}
 use Rattle.event.specs.Frame.{lengthAt}
 use Rattle.event.specs.EndToEnd.{sound, frames}
 use Rattle.step.specs.declared.Answer.{Answer}
 use Rattle.sscf.specs.Burst.{singly, brokenAt}
 use Rattle.step.specs.Plan.{toldBy}
-use Rattle.sscf.proofs.Singles.{rest-is, none-there, one-there, Reached, begins, ends, none-left, no-room-left, as-good, more, within, fits, few′, retold, turn}
+use Rattle.sscf.proofs.Singles.{rest-is, none-there, one-there, Reached, begins, ends, none-left, no-room-left, as-good, more, within, retold, turn}
 use Rattle.sscf.proofs.burst.run.Statement.{statement}
 use Rattle.sscf.proofs.burst.run.Tie as tie
 
@@ -113,17 +113,17 @@ cast-count c = search needs
 abbrev A : tie.After-step Inv-loop μ-loop → Answer
 A c = toldBy (c .step .result)
 
-went : (c : tie.After-step Inv-loop μ-loop) → c .before .before .before .before .before .before .before .before .loop .put + A c .octets ≤ length (c .before .before .before .before .before .before .before .before .before .before .before .before .before .args .out .now)
-went c = fits (c .before .before .before .before .before .before .before .before .loop .inv) (here (c .before .before .before .before) .0) _ (ends-at (c .before .before .before .before)) (c .before .before .before .before .before .before .before .loop-test .taken) (c .before .before .before .before .before .before .before .before .before .before .before .before .before .pre .1) (A c) (c .step .last .0) (c .step .last .1 .1 .0) (c .step .ensures)
-
-counts : (c : tie.After-step Inv-loop μ-loop) → c .before .before .before .before .before .before .before .before .loop .count + A c .signals ≤ c .before .before .before .before .before .before .before .before .loop .put + A c .octets
-counts c = few′ (c .before .before .before .before .before .before .before .before .loop .inv) (here (c .before .before .before .before) .0) _ (ends-at (c .before .before .before .before)) (c .before .before .before .before .before .before .before .loop-test .taken) (c .before .before .before .before .before .before .before .before .before .before .before .before .before .pre .1) (A c) (c .step .last .0) (c .step .last .1 .1 .0) (c .step .ensures)
+turned : (c : tie.After-step Inv-loop μ-loop) → let l = c .before .before .before .before .before .before .before .before .loop in let b = c .before .before .before .before .before .before .before .before .before .before .before .before .before .args in
+    Reached (b .table .now) (b .events .now) (b .out .now) (b .list .now) (c .step .last .0) (take (l .put) (l .out) ++ (c .step .last .1 .1 .0 ++ drop (length (l .out) - l .put) (drop (l .put) (l .out)))) (set (l .list) (l .taken) (A c .refusal)) (l .taken + 1) (l .at + c .before .before .before .before .before .front .result) (l .put + A c .octets) (l .count + A c .signals)
+turned c = turn (c .before .before .before .before .before .before .before .before .loop .inv) (here (c .before .before .before .before) .0) _ (ends-at (c .before .before .before .before)) (c .before .before .before .before .before .before .before .loop-test .taken) (c .before .before .before .before .before .before .before .before .before .before .before .before .before .pre .1) (A c) (c .step .last .0) (c .step .last .1 .1 .0) (c .step .ensures)
 
 add-put : tie.Need-add-put Inv-loop μ-loop
-add-put c = omega (arith, went (c .before .before .before .before .before .before), c .octets-in .ensures)
+add-put c = omega (arith, turned (c .before .before .before .before .before .before) .put-in, c .octets-in .ensures)
 
 add-count : tie.Need-add-count Inv-loop μ-loop
-add-count c = omega (arith, went (c .before .before .before .before .before .before .before), counts (c .before .before .before .before .before .before .before), c .signals-in .ensures)
+add-count c =
+    let t = turned (c .before .before .before .before .before .before .before) in
+    omega (arith, t .put-in, t .few, c .signals-in .ensures)
 
 add-taken : tie.Need-add-taken Inv-loop μ-loop
 add-taken c = let p = placed (c .before .before .before .before .before .before .before .before .before .before .before) in search needs
@@ -135,8 +135,7 @@ loop-again : tie.Need-loop-again Inv-loop μ-loop
 loop-again c =
     let s = c .before .before .before .before .before .before .before in
     let l = s .before .before .before .before .before .before .before .before .loop in
-    let t = turn (l .inv) (here (s .before .before .before .before) .0) _ (ends-at (s .before .before .before .before)) (s .before .before .before .before .before .before .before .loop-test .taken) (s .before .before .before .before .before .before .before .before .before .before .before .before .before .pre .1) (A s) (s .step .last .0) (s .step .last .1 .1 .0) (s .step .ensures) in
-    retold (l .list) (l .taken) (l .taken + 1) _ (l .put) (l .count) (c .before .before .refusal-in .ensures) (c .before .octets-in .ensures) (c .signals-in .ensures) t
+    retold (l .list) (l .taken) (l .taken + 1) _ (l .put) (l .count) (c .before .before .refusal-in .ensures) (c .before .octets-in .ensures) (c .signals-in .ensures) (turned s)
 
 -- WHERE IT STOPS
 none : (c : tie.Left-loop Inv-loop μ-loop) → singly (frames (drop (c .before .loop .at) (c .before .before .before .before .before .before .args .events .now))) (c .before .loop .table) (drop (c .before .loop .put) (c .before .loop .out)) ≡ []
