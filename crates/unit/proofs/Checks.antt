@@ -1,8 +1,8 @@
 -- What a verdict tells of its checks. Assumes nothing.
-use mathlib.Core.Path.{_≡_, refl}
+use mathlib.Core.Path.{_≡_, refl, subst}
 use mathlib.Core.Bool.{Bool, true, false, cond, not, true≢false}
-use mathlib.Core.List.{List, [], _∷_}
-use Rattle.unit.specs.Checks.{Check, Verdict, passed, refused, first}
+use mathlib.Core.List.{List, [], _∷_, _++_, map}
+use Rattle.unit.specs.Checks.{Check, Verdict, passed, refused, first, by}
 
 -- no test of a list that is passed holds
 abbrev pub Clear : {R : Type 0} → List (Check R) → Type 0
@@ -26,3 +26,38 @@ clear (c ∷ cs) h = let p = by-test (c .holds) (c .refusal) (first cs) h in (p 
 pub none : {R : Type 0} (cs : List (Check R)) → Clear cs → first cs ≡ passed
 none [] h = refl
 none (c ∷ cs) h = rw (h .0) (none cs (h .1))
+
+-- CHECKS BEFORE OTHERS, their refusals made into those of the whole: theirs go first
+
+abbrev pub onward : {R S : Type 0} → (R → S) → Verdict R → Verdict S → Verdict S
+onward f passed v = v
+onward f (refused r) v = refused (f r)
+
+by-first : {R S : Type 0} (f : R → S) (b : Bool) (r : R) (v : Verdict R) (w x : Verdict S) → x ≡ onward f v w → cond b (refused (f r)) x ≡ onward f (cond b (refused r) v) w
+by-first f true r v w x h = refl
+by-first f false r v w x h = h
+
+pub first-by : {R S : Type 0} (f : R → S) (cs : List (Check R)) (ds : List (Check S)) → first (map (by f) cs ++ ds) ≡ onward f (first cs) (first ds)
+first-by f [] ds = refl
+first-by f (c ∷ cs) ds = by-first f (c .holds) (c .refusal) (first cs) (first ds) (first (map (by f) cs ++ ds)) (first-by f cs ds)
+
+-- WHAT HOLDS OF EVERY REFUSAL that a list can give holds of the one that it gives
+
+abbrev pub Every : {R : Type 0} → (R → Type 0) → List (Check R) → Type 0
+Every P [] = Unit {0}
+Every P (c ∷ cs) = P (c .refusal) × Every P cs
+
+abbrev Given : {R : Type 0} → (R → Type 0) → Verdict R → Type 0
+Given P passed = Unit {0}
+Given P (refused r) = P r
+
+this-given : {R : Type 0} (P : R → Type 0) (b : Bool) (r : R) (v : Verdict R) → P r → Given P v → Given P (cond b (refused r) v)
+this-given P true r v p q = p
+this-given P false r v p q = q
+
+each-given : {R : Type 0} (P : R → Type 0) (cs : List (Check R)) → Every P cs → Given P (first cs)
+each-given P [] h = tt
+each-given P (c ∷ cs) h = this-given P (c .holds) (c .refusal) (first cs) (h .0) (each-given P cs (h .1))
+
+pub given : {R : Type 0} (P : R → Type 0) (cs : List (Check R)) {r : R} → Every P cs → first cs ≡ refused r → P r
+given P cs h e = subst (Given P) e (each-given P cs h)

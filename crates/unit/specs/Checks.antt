@@ -18,3 +18,7 @@ pub data Verdict (R : Type 0) : Type 0 where
 abbrev pub first : {R : Type 0} → List (Check R) → Verdict R
 first [] = passed
 first (c ∷ others) = cond (c .holds) (refused (c .refusal)) (first others)
+
+-- The same test, with a refusal made of its own.
+abbrev pub by : {R S : Type 0} → (R → S) → Check R → Check S
+by f c = f (c .refusal) if c .holds
