@@ -21,6 +21,13 @@ static void fail(const char *why)
     exit(1);
 }
 
+/* By a refusal that is this host's own fault, with the field that was wrong, "-" for none. */
+static void fail_by(uint32_t refusal, uint32_t place)
+{
+    fprintf(stderr, "host: refused: %s, %s\n", sscf_refusal_name(refusal), sscf_place_name(place));
+    exit(1);
+}
+
 /* The queue: whatever the users, SSCOP and management have to say waits here for its turn. */
 
 struct event {
@@ -197,7 +204,7 @@ static void step(const uint8_t *event, size_t octets)
     if (answer.refusal == SSCF_REFUSED_TIMER || answer.refusal == SSCF_REFUSED_STATE)
         printf("          dropped: %s\n", sscf_refusal_name(answer.refusal)); /* it was overtaken */
     else if (answer.refusal != SSCF_ACCEPTED)
-        fail(sscf_refusal_name(answer.refusal));
+        fail_by(answer.refusal, answer.place);
     for (signal = sscf_first_signal(out, answer); signal != NULL;
          signal = sscf_next_signal(out, answer, signal))
         hand_on(link, event[SSCF_HEAD_AT_CODE], signal);
@@ -243,12 +250,14 @@ enum { ACTS = sizeof story / sizeof *story };
 
 int main(void)
 {
+    struct sscf_fresh_answer made;
     unsigned act = 0;
 
     if (sscf_version() != SSCF_VERSION_NUMBER)
         fail("header and library are not of one version");
-    if (sscf_fresh(table, sizeof table, N1) != SSCF_ACCEPTED)
-        fail("no table");
+    made = sscf_fresh(table, sizeof table, N1);
+    if (made.refusal != SSCF_ACCEPTED)
+        fail_by(made.refusal, made.place);
     for (;;) { /* what waits, and then whatever comes first */
         int timer = next_timer();
 

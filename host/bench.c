@@ -49,8 +49,9 @@ struct bench_case {
     uint8_t state, flags, timers;
     uint16_t c1;
     uint8_t code, parameter;
+    uint32_t number;
     uint16_t length;
-    uint32_t refusal, signals;
+    uint32_t refusal, place, signals;
 };
 
 enum { ALIGNING = SSCF_TIMER_T1 | SSCF_TIMER_T2, PROVING = SSCF_TIMER_T2 | SSCF_TIMER_T3 };
@@ -58,31 +59,43 @@ enum { NO_EVENT = 10 }; /* a code that is none of SSCF_EVENT_... */
 
 static const struct bench_case cases[] = {
     {"T3 expiry while proving", BOTH,
-     SSCF_STATE_2_10_3, 0, PROVING, 500, SSCF_EVENT_T3_EXPIRED, 0, 0, SSCF_ACCEPTED, 2},
+     SSCF_STATE_2_10_3, 0, PROVING, 500, SSCF_EVENT_T3_EXPIRED, 0, 0, 0, SSCF_ACCEPTED, 0, 2},
     {"T3 expiry that ends it, in service at once", ALONE,
-     SSCF_STATE_2_10_3, SSCF_FLAG_INS, PROVING, 0, SSCF_EVENT_T3_EXPIRED, 0, 0, SSCF_ACCEPTED, 5},
+     SSCF_STATE_2_10_3, SSCF_FLAG_INS, PROVING, 0, SSCF_EVENT_T3_EXPIRED, 0, 0, 0,
+     SSCF_ACCEPTED, 0, 5},
     {"DATA of 273 octets in service", BOTH,
-     SSCF_STATE_3_10_5, 0, 0, 0, SSCF_EVENT_DATA, 0, 273, SSCF_ACCEPTED, 1},
+     SSCF_STATE_3_10_5, 0, 0, 0, SSCF_EVENT_DATA, 0, 0, 273, SSCF_ACCEPTED, 0, 1},
     {"DATA of 4,096 octets in service", ALONE,
-     SSCF_STATE_3_10_5, 0, 0, 0, SSCF_EVENT_DATA, 0, 4096, SSCF_ACCEPTED, 1},
+     SSCF_STATE_3_10_5, 0, 0, 0, SSCF_EVENT_DATA, 0, 0, 4096, SSCF_ACCEPTED, 0, 1},
     {"user message of 273 octets in service", BOTH,
-     SSCF_STATE_3_10_5, 0, 0, 0, SSCF_EVENT_MESSAGE_FOR_TRANSMISSION, 0, 273, SSCF_ACCEPTED, 2},
+     SSCF_STATE_3_10_5, 0, 0, 0, SSCF_EVENT_MESSAGE_FOR_TRANSMISSION, 0, 0, 273,
+     SSCF_ACCEPTED, 0, 2},
     {"ESTABLISH-indication with NM in 2/1/2", BOTH,
-     SSCF_STATE_2_1_2, 0, ALIGNING, 0, SSCF_EVENT_ESTABLISH_INDICATION, SSCF_STATUS_NM, 0,
-     SSCF_ACCEPTED, 4},
+     SSCF_STATE_2_1_2, 0, ALIGNING, 0, SSCF_EVENT_ESTABLISH_INDICATION, SSCF_STATUS_NM, 0, 0,
+     SSCF_ACCEPTED, 0, 4},
     {"EMERGENCY in 1/1/1", BOTH,
-     SSCF_STATE_1_1_1, 0, 0, 0, SSCF_EVENT_EMERGENCY, 0, 0, SSCF_ACCEPTED, 0},
+     SSCF_STATE_1_1_1, 0, 0, 0, SSCF_EVENT_EMERGENCY, 0, 0, 0, SSCF_ACCEPTED, 0, 0},
     {"an unknown code, refused by 3", ALONE,
-     SSCF_STATE_3_10_5, 0, 0, 0, NO_EVENT, 0, 0, SSCF_REFUSED_CODE, 0},
+     SSCF_STATE_3_10_5, 0, 0, 0, NO_EVENT, 0, 0, 0, SSCF_REFUSED_CODE, 0, 0},
+    {"START with a parameter, refused by 10", ALONE,
+     SSCF_STATE_3_10_5, 0, 0, 0, SSCF_EVENT_START, 1, 0, 0,
+     SSCF_REFUSED_NOT_CARRIED, SSCF_PLACE_PARAMETER, 0},
+    {"RELEASE-indication with source 2, refused by 11", ALONE,
+     SSCF_STATE_3_10_5, 0, 0, 0, SSCF_EVENT_RELEASE_INDICATION, SSCF_STATUS_OOS, 2, 0,
+     SSCF_REFUSED_RANGE, SSCF_PLACE_NUMBER, 0},
+    {"user message of 4 octets, refused by 12", ALONE,
+     SSCF_STATE_3_10_5, 0, 0, 0, SSCF_EVENT_MESSAGE_FOR_TRANSMISSION, 0, 0, 4,
+     SSCF_REFUSED_SHORT, SSCF_PLACE_LENGTH, 0},
     {"START in service, refused by 8", ALONE,
-     SSCF_STATE_3_10_5, 0, 0, 0, SSCF_EVENT_START, 0, 0, SSCF_REFUSED_STATE, 0},
+     SSCF_STATE_3_10_5, 0, 0, 0, SSCF_EVENT_START, 0, 0, 0, SSCF_REFUSED_STATE, 0, 0},
     {"NM unit while proving", MIXED,
-     SSCF_STATE_2_10_3, 0, PROVING, 500, SSCF_EVENT_DATA, 0, SSCF_UNIT_OCTETS, SSCF_ACCEPTED, 0},
+     SSCF_STATE_2_10_3, 0, PROVING, 500, SSCF_EVENT_DATA, 0, 0, SSCF_UNIT_OCTETS,
+     SSCF_ACCEPTED, 0, 0},
     {"CONGESTION in service", MIXED,
-     SSCF_STATE_3_10_5, 0, 0, 0, SSCF_EVENT_CONGESTION, 1, 0, SSCF_ACCEPTED, 2},
+     SSCF_STATE_3_10_5, 0, 0, 0, SSCF_EVENT_CONGESTION, 1, 0, 0, SSCF_ACCEPTED, 0, 2},
     {"RELEASE-indication in service", MIXED,
-     SSCF_STATE_3_10_5, 0, 0, 0, SSCF_EVENT_RELEASE_INDICATION, SSCF_STATUS_OOS, 0,
-     SSCF_ACCEPTED, 2},
+     SSCF_STATE_3_10_5, 0, 0, 0, SSCF_EVENT_RELEASE_INDICATION, SSCF_STATUS_OOS, 0, 0,
+     SSCF_ACCEPTED, 0, 2},
 };
 
 enum { CASES = sizeof cases / sizeof *cases };
@@ -218,8 +231,8 @@ static void set_up_kind(struct kind *kind, const struct bench_case *c)
         message[i] = (uint8_t)(i * 7 + 1);
     if (c->length == SSCF_UNIT_OCTETS)
         message[SSCF_UNIT_OCTETS - 1] = SSCF_STATUS_NM;
-    kind->event_octets = sscf_put_event(kind->event, sizeof kind->event, 0, c->code, c->parameter, 0,
-                                        message, c->length);
+    kind->event_octets = sscf_put_event(kind->event, sizeof kind->event, 0, c->code, c->parameter,
+                                        c->number, message, c->length);
 }
 
 static void draw(unsigned many)
@@ -284,8 +297,9 @@ static int step_agreed(const struct row *row, unsigned call)
     kind = ready(call);
     second = second_step(table, table_octets, kind->event, kind->event_octets, out, sizeof out);
 
-    return ours.refusal == due->refusal && ours.signals == due->signals &&
-           second.refusal == ours.refusal && second.octets == ours.octets &&
+    return ours.refusal == due->refusal && ours.place == due->place &&
+           ours.signals == due->signals && second.refusal == ours.refusal &&
+           second.place == ours.place && second.octets == ours.octets &&
            second.signals == ours.signals && memcmp(out, our_out, sizeof out) == 0 &&
            memcmp(record, our_record, sizeof our_record) == 0;
 }
@@ -415,7 +429,7 @@ static int read_agreed(void)
         type answer;                                                                           \
                                                                                                \
         answer = step(table, table_octets, kind->event, kind->event_octets, out, sizeof out);  \
-        return answer.refusal + answer.octets + answer.signals;                                \
+        return answer.refusal + answer.octets + answer.signals + answer.place;                 \
     }                                                                                          \
     TURNS(name, name##_turn)
 

@@ -24,7 +24,7 @@ struct sscf_answer empty_step(uint8_t *table, size_t table_octets,
                               const uint8_t *event, size_t event_octets,
                               uint8_t *out, size_t out_octets)
 {
-    struct sscf_answer nothing = {SSCF_ACCEPTED, 0, 0};
+    struct sscf_answer nothing = {SSCF_ACCEPTED, 0, 0, SSCF_PLACE_NONE};
 
     (void)table, (void)table_octets, (void)event, (void)event_octets, (void)out, (void)out_octets;
     return nothing;

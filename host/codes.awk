@@ -82,7 +82,7 @@ function carried(name, parameter, number, message,    n, text, sum) {
 
 # An event that was refused for its code or its fields is shown field by field.
 function event_carried(name, refusal, parameter, number, message) {
-    if (refusal == 3 || refusal == 4) return "parameter " parameter ", number " number ", message " message
+    if (refusal == 3 || refusal >= 10 && refusal <= 12) return "parameter " parameter ", number " number ", message " message
     return carried(name, parameter, number, message)
 }
 
@@ -113,7 +113,7 @@ function octet_at(hex, i) {
 }
 
 # Every line is one of the trace's or of host/steps', and the links come last, unless there was no table.
-!/^(T 1|E [0-9]+ [0-9]+ [0-9]+ [0-9] [0-9]|[SC]( [0-9]+)+ [0-9]+\.[0-9]+\.[0-9]+ (-|[0-9a-f]+)|L [0-9]+ (\?|[0-9\/]+) [0-9]+)$/ {
+!/^(T 1|E [0-9]+ [0-9]+ [0-9]+ ([0-9]|1[0-2]) [0-9]|[SC]( [0-9]+)+ [0-9]+\.[0-9]+\.[0-9]+ (-|[0-9a-f]+)|L [0-9]+ (\?|[0-9\/]+) [0-9]+)$/ {
     fail("line " NR " is none of the trace's: " substr($0, 1, 60))
 }
 

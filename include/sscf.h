@@ -73,7 +73,7 @@
  *     sscf_fresh(table, sizeof table, SSCF_N1_DEFAULT);
  *     answer = sscf_step(table, sizeof table, start, sizeof start, out, sizeof out);
  *
- * starts link 2 of four. The answer is {0, 36, 3}: accepted, and three signals in the first 36
+ * starts link 2 of four. The answer is {0, 36, 3, 0}: accepted, and three signals in the first 36
  * octets of out, which are ESTABLISH_REQUEST for SSCOP, a REPORT for layer management and SET_T2.
  * They are taken one behind the other:
  *
@@ -138,12 +138,26 @@
 extern "C" {
 #endif
 
-/* 0.4.0 adds sscf_burst; the other calls answer as those of 0.3.0 do.
+/*
+ * 0.5.0 tells which field of an event was wrong. What a host of 0.4.0 has to change:
+ *
+ * - sscf_fresh answers a struct sscf_fresh_answer and no longer a number: compare its `refusal`.
+ * - What was SSCF_REFUSED_FIELD, 4, is 10, 11 or 12 now. A test for a plain 4 still compiles, and
+ *   is never true.
+ * - A step's refusals go up to 12, and 10 to 12 are no higher in the order of the checks: look at
+ *   arrays of ten and at comparisons by < and >.
+ * - struct sscf_answer has a fourth number at its end, so all that calls the library is compiled
+ *   again. No linker sees where that was forgotten; sscf_version() held against
+ *   SSCF_VERSION_NUMBER at the start shows a header and a library that are not of one version.
+ *
+ * All other numbers, 13 among them, and tables, events and signals are as in 0.4.0.
+ *
  * Up to 0.2.0 a number of BSNT was kept through later connections too. A table that such a version
  * has written is taken as it is: there BSNT may be older than the latest connection, until the next
- * DATA is accepted or the next connection comes up. */
-#define SSCF_VERSION "0.4.0"
-#define SSCF_VERSION_NUMBER 4000 /* 1,000,000 x 0 + 1,000 x 4 + 0 */
+ * DATA is accepted or the next connection comes up.
+ */
+#define SSCF_VERSION "0.5.0"
+#define SSCF_VERSION_NUMBER 5000 /* 1,000,000 x 0 + 1,000 x 5 + 0 */
 
 /* LIMITS */
 
@@ -296,8 +310,8 @@ enum sscf_event {
     SSCF_EVENT_START = 5,                      /*                                 12...... */
     SSCF_EVENT_RETRIEVE_BSNT = 6,              /*                                 12...... */
     SSCF_EVENT_RETRIEVAL_REQUEST_AND_FSNC = 7, /* number: FSNC                    12...... */
-    SSCF_EVENT_FLUSH_BUFFERS = 8,              /* ignored                         12345678 */
-    SSCF_EVENT_CONTINUE = 9,                   /* ignored                         12345678 */
+    SSCF_EVENT_FLUSH_BUFFERS = 8,              /*         (does nothing)          12345678 */
+    SSCF_EVENT_CONTINUE = 9,                   /*         (does nothing)          12345678 */
 
     /* From SSCOP, its AA- signals. A call of the peer in state 1 is turned down by RELEASE_REQUEST
      * with OOS, or PO during an outage. DATA of five octets or more is a message for the user, of
@@ -412,15 +426,28 @@ enum sscf_report_reason { /* octet 8 */
 /*
  * REFUSALS
  *
- * Each is given exactly where it is listed, and the checks are made in this order: where several
- * things are wrong the lowest number is answered. 13 is of a burst alone, which tells 2 beside it
- * and gives no 9, see there; 10 to 12 are not given.
+ * Each is given exactly where it is listed, and the checks are made in the order of the list, which
+ * is not that of the numbers: 10, 11 and 12 stand between 3 and 5. Where several things are wrong
+ * the first is answered. sscf_burst alone gives 13; it tells 2 in `broken` and never in its list,
+ * and gives no 9. No call on a table gives 4.
  *
- * 1 to 6, 9 and 13 are faults of the host: a wrong length, an event written wrong, a record that
- * something else wrote into. The same call is refused again, so they are to be logged and mended.
- * After 6 the link is lost. A copy of its record brings it back if it was taken after the last
- * event that was accepted for the link; an older one may say in service of a connection that is
- * gone. Without one, release the connections and make the table anew. Of a table that something
+ * With 10, 11 and 12 a step names the field of the event that is at fault by its place, which is
+ * that of the field's first octet: event + place is where it begins. 10 is asked of all fields,
+ * then 11, then 12; where several are at fault for the number that is answered, the one at the
+ * lowest place is named. So RELEASE_INDICATION with parameter 6, which is no status code, and with
+ * a message is 10 at the length; without the message it is 11 at the parameter; and with parameter
+ * 0 and a source of 256 it is 11 at the number. MESSAGE_FOR_TRANSMISSION with four octets or with
+ * none is 12 at the length; with a code that carries no message, one of 1 octet or more is 10
+ * there. These refusals are of the event alone: on every table that is not refused itself, and with
+ * any output, the same event gets the same number and place. sscf_fresh answers 11 at the place
+ * that n1 has in a record; what is 0 there is its argument, and no octet of the table, which is as
+ * it was. Every other answer has place 0.
+ *
+ * 1 to 3, 5, 6 and 9 to 13 are faults of the host: a wrong length, an event written wrong, a record
+ * that something else wrote into. The same call is refused again, so they are to be logged and
+ * mended. After 6 the link is lost. A copy of its record brings it back if it was taken after the
+ * last event that was accepted for the link; an older one may say in service of a connection that
+ * is gone. Without one, release the connections and make the table anew. Of a table that something
  * else wrote into, what is proved of links in service no longer speaks, until the next sscf_fresh.
  *
  * 7 and 8 can be its faults too, as when it starts a link twice, but they also come where there is
@@ -454,9 +481,14 @@ enum sscf_refusal {
     SSCF_REFUSED_FRAME = 2,  /* event under 12 octets, its mark not "EV", octet 9 not 0, length
                                 over 4,096 or not equal to the octets that follow */
     SSCF_REFUSED_CODE = 3,   /* unknown event code */
-    SSCF_REFUSED_FIELD = 4,  /* a field set that the code does not carry (a length above 0 counts as
-                                one), a parameter or source out of range, or a user message under
-                                5 octets */
+
+    /* Then these three, which name a field of the event. A field is set if it is not 0. */
+    SSCF_REFUSED_NOT_CARRIED = 10, /* a field set that the code does not carry, the length too */
+    SSCF_REFUSED_RANGE = 11,       /* a parameter or source out of its range (a far end's status
+                                      that is none of ours goes in as 0); of sscf_fresh, n1 0 */
+    SSCF_REFUSED_SHORT = 12,       /* MESSAGE_FOR_TRANSMISSION with 0 to 4 octets */
+
+    /* Then the others. */
     SSCF_REFUSED_LINK = 5,   /* link number not below the number of records */
     SSCF_REFUSED_RECORD = 6, /* that link's record ill-formed */
     SSCF_REFUSED_TIMER = 7,  /* expiry of a timer that is not marked running */
@@ -465,21 +497,39 @@ enum sscf_refusal {
     SSCF_REFUSED_LIST = 13   /* of a burst as a whole: its list is too short */
 };
 
+/* Where the fields that 10, 11 and 12 name begin: the first three in an event, n1 in a link record.
+ * SSCF_HEAD_AT_... and SSCF_LINK_AT_N1 of sscf_host.h are the same numbers. */
+enum sscf_place {
+    SSCF_PLACE_NONE = 0,
+    SSCF_PLACE_PARAMETER = 5, /* one octet */
+    SSCF_PLACE_NUMBER = 6,    /* three; of RELEASE_INDICATION, the source */
+    SSCF_PLACE_LENGTH = 10,   /* two */
+    SSCF_PLACE_N1 = 14        /* two; of sscf_fresh alone */
+};
+
+/* What sscf_fresh answers. */
+struct sscf_fresh_answer {
+    uint32_t refusal; /* SSCF_ACCEPTED, SSCF_REFUSED_TABLE or SSCF_REFUSED_RANGE */
+    uint32_t place;   /* SSCF_PLACE_N1 with SSCF_REFUSED_RANGE, else 0 */
+};
+
 /*
  * Makes a fresh table: every record of the table_octets / 16 becomes out of service, with nothing
- * forced, no timer running and no BSNT, and n1 proving units for normal proving. Links with another
- * n1 want a table of their own.
+ * forced, no timer running and no BSNT, and n1 proving units for normal proving, 1 to 65,535. C
+ * cuts a larger number before the call sees it: 65,537 arrives as 1. Links with another n1 want a
+ * table of their own.
  *
- * Answers SSCF_ACCEPTED, or SSCF_REFUSED_TABLE, or else SSCF_REFUSED_FIELD if n1 is 0. A refusal
- * leaves the table as it was.
+ * Answers SSCF_ACCEPTED, or SSCF_REFUSED_TABLE, or else SSCF_REFUSED_RANGE at SSCF_PLACE_N1 if n1
+ * is 0. A refusal leaves the table as it was.
  */
-uint32_t sscf_fresh(uint8_t *table, size_t table_octets, uint16_t n1);
+struct sscf_fresh_answer sscf_fresh(uint8_t *table, size_t table_octets, uint16_t n1);
 
 /* What a step answers. */
 struct sscf_answer {
     uint32_t refusal; /* SSCF_ACCEPTED or SSCF_REFUSED_... */
     uint32_t octets;  /* octets written to the output, from its beginning; 0 if refused */
     uint32_t signals; /* signal records in them, one behind the other; 0 if refused */
+    uint32_t place;   /* SSCF_PLACE_... of the field at fault with 10, 11 and 12, else 0 */
 };
 
 /*
@@ -489,8 +539,8 @@ struct sscf_answer {
  * of out. An accepted event may well have none: octets and signals are then 0. No octet changes
  * but in that link's record and in the first `octets` octets of out. The record stays well-formed.
  *
- * Refused, it answers the number of the refusal, 0 and 0, and no octet of table or out changes: it
- * is as if the call had not been made.
+ * Refused, it answers the number of the refusal, no octets and no signals, and with 10, 11 and 12
+ * the place, and no octet of table or out changes: it is as if the call had not been made.
  *
  * The event is only read. What out held before does not matter.
  */
@@ -505,8 +555,10 @@ struct sscf_answer sscf_step(uint8_t *table, size_t table_octets,
  * restart, in one crossing into the library. Each is done as sscf_step would do it, one after the
  * other, on the table that the one before left and with the rest of the output. So the signals of
  * all stand in out, one behind the other in the order of their events, and refusals[n], counted
- * from 0, is what sscf_step would have answered for event n: 0 if it was accepted, else 3 to 8. An
- * event that is refused is passed over, and the burst goes on with the next.
+ * from 0, is the refusal that sscf_step would have answered for event n: 0 if it was accepted, else
+ * 3, 5 to 8 or 10 to 12. An event that is refused is passed over, and the burst goes on with the
+ * next. The place of 10, 11 and 12 is not told. sscf_step with the same event and an out of NULL
+ * and 0 tells it at any time: without output it accepts nothing.
  *
  * An event is sound here, accepted or not, if its frame is not broken; and a frame is broken if
  * fewer than 12 octets are left, the mark is not "EV", octet 9 is not 0, or the length is over

@@ -12,7 +12,8 @@
  *     const uint8_t *signal;
  *
  *     if (answer.refusal != SSCF_ACCEPTED)
- *         printf("refused: %s\n", sscf_refusal_name(answer.refusal));
+ *         printf("refused: %s, %s\n", sscf_refusal_name(answer.refusal),
+ *                sscf_place_name(answer.place));
  *     for (signal = sscf_first_signal(out, answer); signal != NULL;
  *          signal = sscf_next_signal(out, answer, signal))
  *         printf("%s\n", sscf_signal_name(signal[SSCF_HEAD_AT_CODE]));
@@ -102,7 +103,8 @@ static inline uint32_t sscf_link_state(const uint8_t *table, uint32_t link)
  *
  * Answers the event's octets, SSCF_HEAD_OCTETS + length, for sscf_step. If a value is too large for
  * its field, or the event for the room, it answers 0 and writes nothing; an event of 0 octets is
- * refused as SSCF_REFUSED_FRAME. In a buffer for sscf_burst it is simply not there: test for 0.
+ * refused as SSCF_REFUSED_FRAME, with no place. In a buffer for sscf_burst it is simply not there:
+ * test for 0.
  * Whether the fields are right for the code sscf_step and sscf_burst say.
  */
 static inline size_t sscf_put_event(uint8_t *event, size_t room, uint32_t link, uint32_t code,
@@ -168,11 +170,12 @@ static inline const uint8_t *sscf_next_signal(const uint8_t *out, struct sscf_an
 /*
  * NAMES
  *
- * Each code as Q.2140 has it, a changeover's heading as Q.2210 has it, and refusals in a few words;
- * "?" if there is no such code. Status codes and a REPORT's values are Table 6's abbreviations, so
- * that its {LR,OOS,-} can be printed as it stands there: 0 in a REPORT is "-". The trace's
- * scripts, host/names and host/ladder of the sources, print the shorter names of sscf.h's constants
- * instead: what is START_PROVING there is MAAL-PROVING-indication here.
+ * Each code as Q.2140 has it, a changeover's heading as Q.2210 has it, refusals in a few words, and
+ * the field that a place stands for; "?" if there is no such code. Status codes and a REPORT's
+ * values are Table 6's abbreviations, so that its {LR,OOS,-} can be printed as it stands there: 0
+ * in a REPORT is "-". The trace's scripts, host/names and host/ladder of the sources, print the
+ * shorter names of sscf.h's constants instead: what is START_PROVING there is
+ * MAAL-PROVING-indication here.
  */
 
 static inline const char *sscf_state_name(uint32_t state)
@@ -329,13 +332,28 @@ static inline const char *sscf_refusal_name(uint32_t refusal)
     case SSCF_REFUSED_TABLE: return "bad table";
     case SSCF_REFUSED_FRAME: return "bad frame";
     case SSCF_REFUSED_CODE: return "unknown code";
-    case SSCF_REFUSED_FIELD: return "bad field";
+    case SSCF_REFUSED_NOT_CARRIED: return "field not carried";
+    case SSCF_REFUSED_RANGE: return "field out of range";
+    case SSCF_REFUSED_SHORT: return "user message too short";
     case SSCF_REFUSED_LINK: return "no such link";
     case SSCF_REFUSED_RECORD: return "bad record";
     case SSCF_REFUSED_TIMER: return "timer not running";
     case SSCF_REFUSED_STATE: return "illegal in this state";
     case SSCF_REFUSED_OUTPUT: return "output too short";
     case SSCF_REFUSED_LIST: return "list too short";
+    default: return "?";
+    }
+}
+
+/* Of the place beside a refusal, the field that begins there. */
+static inline const char *sscf_place_name(uint32_t place)
+{
+    switch (place) {
+    case SSCF_PLACE_NONE: return "-";
+    case SSCF_PLACE_PARAMETER: return "parameter";
+    case SSCF_PLACE_NUMBER: return "number";
+    case SSCF_PLACE_LENGTH: return "length";
+    case SSCF_PLACE_N1: return "n1";
     default: return "?";
     }
 }

@@ -2,7 +2,7 @@
 use Prim.Native.Nat.{ℕ, _≤_}
 use native.Mathlib.Omega.{arith}
 use mathlib.Core.Path.{_≡_, refl, sym, ap, subst, _∙_}
-use mathlib.Core.Bool.{Bool, true, false, cond, not, _&&_, _||_, or-false, true≢false}
+use mathlib.Core.Bool.{Bool, true, false, cond, not, _&&_, _||_, true≢false}
 use mathlib.Core.List.{List, [], _∷_}
 use lib.Dec.{eqb, leb}
 use lib.ListN.{length}
@@ -10,7 +10,8 @@ use borrow.Author.Tests.{leb-false, eqb-true, ne-eqb, not-false, not-true}
 use Rattle.table6.specs.RefusalCodes.{REFUSED-CODE, REFUSED-FRAME}
 use Rattle.unit.specs.declared.Arrived.{Arrived}
 use Rattle.unit.specs.Unit.{arrived}
-use Rattle.unit.specs.Answered.{Answered, refused, accepted}
+use Rattle.unit.specs.Checks.{Verdict, passed, refused, first}
+use Rattle.unit.proofs.Checks.{clear}
 use Rattle.table6.specs.EventCodes.{MESSAGE-FOR-TRANSMISSION, EMERGENCY, EMERGENCY-CEASES, STOP, START, RETRIEVE-BSNT, RETRIEVAL-REQUEST-AND-FSNC, FLUSH-BUFFERS, CONTINUE}
 use Rattle.table6.specs.EventCodes.{ESTABLISH-indication, ESTABLISH-confirm, RELEASE-indication, RELEASE-confirm, DATA-indication, RESYNC-indication, RECOVER-indication}
 use Rattle.table6.specs.EventCodes.{UNITDATA-indication, RETRIEVE-indication, RETRIEVE-COMPLETE-indication}
@@ -21,70 +22,154 @@ use Rattle.link.specs.declared.Num.{Num}
 use Rattle.link.specs.declared.Event.{Event}
 use Rattle.link.specs.Signal.{num, none}
 use Rattle.event.specs.declared.Reading.{Reading}
+use Rattle.event.specs.declared.Fault.{Fault}
+use Rattle.event.specs.declared.Look.{Look}
 use Rattle.octet.specs.Octets.{at}
 use Rattle.octet.proofs.Branches.{neither}
 use Rattle.event.specs.Frame.{EV, lengthAt, linkAt, numberAt, messageOf, codeAt, paramAt, written}
-use Rattle.event.specs.EventRecord.{framed, events, Coded, among, Each, codedAt, codedIn, said, isStatus, hasMessage, hasNumber, hasField, hasParameter, isZero}
-use Rattle.event.specs.EventRecord.{misfit, reading, fitting, saying, fieldsOf, readingOf, Holds, Carried, carrying, carried, Rewritten, Reread}
+use Rattle.event.specs.Fields.{noneOrStatus, isZero, isSource, fields, notCarried, outOfRange, fieldChecks}
+use Rattle.event.specs.EventRecord.{framed, events, Coded, among, Each, codedAt, codedIn, said, unknown, fieldsIn, Refused, _at-place_}
+use Rattle.event.specs.EventRecord.{reading, fitting, saying, fieldsOf, readingOf, Holds, Carried, carrying, carried, Rewritten, Reread}
+use Rattle.event.specs.Look.{Seen}
+use Rattle.event.proofs.Fields.{hasParameter, hasNumber, parameter-not-carried, number-not-carried, source-out-of-range}
 use Rattle.event.proofs.Frame.{frame-rewritten, frame-reread, two-back}
 
--- WHAT A READING TELLS of the tests in it: whether the frame is sound, what the code says, whether a field misfits
+-- WHAT A READING TELLS of the tests in it: whether the frame is sound, what the code says, and whether its fields pass
 
-abbrev pub coded : Coded → Bool
-coded Coded.Unknown = false
-coded (Coded.Of x) = true
-
-abbrev pub Told : Reading → Bool → Coded → Bool → Type 0
-Told Reading.BadFrame f x m = f ≡ false
-Told Reading.UnknownCode f x m = (f ≡ true) × (coded x ≡ false)
-Told Reading.Misfit f x m = (f ≡ true) × (coded x ≡ true) × (m ≡ true)
-Told Reading.Fits f x m = (f ≡ true) × (coded x ≡ true) × (m ≡ false)
+abbrev pub Told : Reading → Bool → Coded → Verdict Fault → Type 0
+Told Reading.BadFrame f x v = f ≡ false
+Told Reading.UnknownCode f x v = (f ≡ true) × (unknown x ≡ true)
+Told (Reading.Misfit g) f x v = (f ≡ true) × (unknown x ≡ false) × (v ≡ refused g)
+Told Reading.Fits f x v = (f ≡ true) × (unknown x ≡ false) × (v ≡ passed)
 
 -- the reading of an answer
-abbrev back : Answered (Unit {0}) → Reading
-back (refused n) = cond (eqb n 2) Reading.BadFrame (cond (eqb n 3) Reading.UnknownCode Reading.Misfit)
-back (accepted u) = Reading.Fits
+abbrev faultOf : Refused → Fault
+faultOf r = cond (eqb (r .number) 10) (Fault.NotCarried (r .place)) (cond (eqb (r .number) 11) (Fault.OutOfRange (r .place)) (Fault.Short (r .place)))
+
+abbrev back : Verdict Refused → Reading
+back (refused r) = cond (eqb (r .number) 2) Reading.BadFrame (cond (eqb (r .number) 3) Reading.UnknownCode (Reading.Misfit (faultOf r)))
+back passed = Reading.Fits
 
 back-is : (r : Reading) → back (reading r) ≡ r
 back-is Reading.BadFrame = refl
 back-is Reading.UnknownCode = refl
-back-is Reading.Misfit = refl
+back-is (Reading.Misfit (Fault.NotCarried q)) = refl
+back-is (Reading.Misfit (Fault.OutOfRange q)) = refl
+back-is (Reading.Misfit (Fault.Short q)) = refl
 back-is Reading.Fits = refl
 
 pub one-reading : (r s : Reading) → reading r ≡ reading s → r ≡ s
 one-reading r s h = sym (back-is r) ∙ ap back h ∙ back-is s
 
-tells : (f : Bool) (x : Coded) (m : Bool) → Told (back (cond f (saying x m) (refused REFUSED-FRAME))) f x m
-tells false x m = refl
-tells true Coded.Unknown m = (refl, refl)
-tells true (Coded.Of x) true = (refl, refl, refl)
-tells true (Coded.Of x) false = (refl, refl, refl)
+tells : (f : Bool) (x : Coded) (v : Verdict Fault) → Told (back (cond f (saying x v) (refused (REFUSED-FRAME at-place 0)))) f x v
+tells false x v = refl
+tells true Coded.Unknown v = (refl, refl)
+tells true (Coded.Of x) (refused (Fault.NotCarried q)) = (refl, refl, refl)
+tells true (Coded.Of x) (refused (Fault.OutOfRange q)) = (refl, refl, refl)
+tells true (Coded.Of x) (refused (Fault.Short q)) = (refl, refl, refl)
+tells true (Coded.Of x) passed = (refl, refl, refl)
 
 abbrev pub ToldOf : List ℕ → Reading → Type 0
-ToldOf e r = Told r (framed e) (codedIn e) (misfit (codeAt e) (paramAt e) (numberAt e) (lengthAt e))
+ToldOf e r = Told r (framed e) (codedIn e) (first (fieldChecks (codeAt e) (fieldsIn e)))
 
 pub reading-tells : (e : List ℕ) (r : Reading) → reading r ≡ readingOf e → ToldOf e r
 unfolding readingOf fieldsOf
 reading-tells e r h =
-    subst (ToldOf e) (ap back (sym h) ∙ back-is r) (tells (framed e) (codedIn e) (misfit (codeAt e) (paramAt e) (numberAt e) (lengthAt e)))
+    subst (ToldOf e) (ap back (sym h) ∙ back-is r) (tells (framed e) (codedIn e) (first (fieldChecks (codeAt e) (fieldsIn e))))
 
--- WHAT THE FIELDS COME TO, code by code
+-- WHAT A LOOK AT A CODE TELLS
 
-fitted : (x : Coded) (m : Bool) → coded x ≡ true → fitting m ≡ saying x m
-fitted Coded.Unknown m h = absurd (true≢false (sym h))
-fitted (Coded.Of x) m h = refl
+by-look : (e : List ℕ) (b : Bool) → unknown (codedIn e) ≡ false → (b ≡ true → first (fieldChecks (codeAt e) (fieldsIn e)) ≡ passed) → Seen e (cond b Look.Fits Look.Closer)
+by-look e true h p = (h, p refl)
+by-look e false h p = h
 
-pub at-code : (e : List ℕ) (c : ℕ) {m : Bool} → at e 4 ≡ c → coded (codedAt c (paramAt e) (numberAt e) (lengthAt e) (arrived (messageOf e))) ≡ true →
-    m ≡ misfit c (paramAt e) (numberAt e) (lengthAt e) → fitting m ≡ fieldsOf e
+-- the code is known
+abbrev Known : List ℕ → ℕ → Type 0
+Known e c = unknown (codedAt c (paramAt e) (numberAt e) (lengthAt e) (arrived (messageOf e))) ≡ false
+
+pub known-at : (e : List ℕ) (c : ℕ) → at e 4 ≡ c → Known e c → Seen e Look.Closer
+known-at e c k u = rw k u
+
+-- by a test which, where it holds, has all fields pass
+seen-at : (e : List ℕ) (c : ℕ) (b : Bool) {r : Look} → at e 4 ≡ c → Known e c → (b ≡ true → first (fieldChecks c (fieldsIn e)) ≡ passed) → r ≡ cond b Look.Fits Look.Closer → Seen e r
+seen-at e c b k u p h = subst (Seen e) (sym h) (by-look e b (rw k u) (λ t. rw k (p t)))
+
+-- three tests that are left of the six, and those three asked in another order
+abbrev threeLeft : Bool → Bool → Bool → Fault → Fault → Fault → Verdict Fault
+threeLeft x y z f g h = cond x (refused f) (cond y (refused g) (cond z (refused h) passed))
+
+none-left : (x y z : Bool) (f g h : Fault) → x ≡ false → y ≡ false → z ≡ false → threeLeft x y z f g h ≡ passed
+none-left x y z f g h p q r = rw (p, q, r)
+
+none-of : (x y z : Bool) → not (x || y || z) ≡ true → (x ≡ false) × (y ≡ false) × (z ≡ false)
+none-of x y z h =
+    let g = neither (x || y) z (not-true _ h) in
+    let f = neither x y (g .0) in
+    (f .0, f .1, g .1)
+
+pub bare-at : (e : List ℕ) (c : ℕ) {r : Look} → at e 4 ≡ c → Known e c →
+    first (fieldChecks c (fieldsIn e)) ≡ threeLeft (leb 1 (paramAt e)) (not (isZero (numberAt e))) (leb 1 (lengthAt e)) (Fault.NotCarried 5) (Fault.NotCarried 6) (Fault.NotCarried 10) →
+    r ≡ cond (not (leb 1 (lengthAt e) || not (isZero (numberAt e)) || leb 1 (paramAt e))) Look.Fits Look.Closer → Seen e r
+bare-at e c k u f h =
+    let x = leb 1 (paramAt e) in
+    let y = not (isZero (numberAt e)) in
+    let z = leb 1 (lengthAt e) in
+    seen-at e c (not (z || y || x)) k u (λ t. let g = none-of z y x t in f ∙ none-left x y z (Fault.NotCarried 5) (Fault.NotCarried 6) (Fault.NotCarried 10) (g .2) (g .1) (g .0)) h
+
+pub established-at : (e : List ℕ) (c : ℕ) {r : Look} → at e 4 ≡ c → Known e c →
+    first (fieldChecks c (fieldsIn e)) ≡ threeLeft (not (isZero (numberAt e))) (leb 1 (lengthAt e)) (not (noneOrStatus (paramAt e))) (Fault.NotCarried 6) (Fault.NotCarried 10) (Fault.OutOfRange 5) →
+    r ≡ cond (not (leb 1 (lengthAt e) || not (isZero (numberAt e)) || not (noneOrStatus (paramAt e)))) Look.Fits Look.Closer → Seen e r
+established-at e c k u f h =
+    let x = not (isZero (numberAt e)) in
+    let y = leb 1 (lengthAt e) in
+    let z = not (noneOrStatus (paramAt e)) in
+    seen-at e c (not (y || x || z)) k u (λ t. let g = none-of y x z t in f ∙ none-left x y z (Fault.NotCarried 6) (Fault.NotCarried 10) (Fault.OutOfRange 5) (g .1) (g .0) (g .2)) h
+
+pub message-at : (e : List ℕ) {r : Look} → at e 4 ≡ MESSAGE-FOR-TRANSMISSION → r ≡ cond (not (not (isZero (numberAt e)) || leb 1 (paramAt e) || not (leb 5 (lengthAt e)))) Look.Fits Look.Closer → Seen e r
+unfolding codedAt notCarried outOfRange
+message-at e k h =
+    let x = leb 1 (paramAt e) in
+    let y = not (isZero (numberAt e)) in
+    let z = not (leb 5 (lengthAt e)) in
+    seen-at e MESSAGE-FOR-TRANSMISSION (not (y || x || z)) k refl (λ t. let g = none-of y x z t in none-left x y z (Fault.NotCarried 5) (Fault.NotCarried 6) (Fault.Short 10) (g .1) (g .0) (g .2)) h
+
+-- two tests alone
+pub retrieval-at : (e : List ℕ) {r : Look} → at e 4 ≡ RETRIEVAL-REQUEST-AND-FSNC → r ≡ cond (not (leb 1 (lengthAt e) || leb 1 (paramAt e))) Look.Fits Look.Closer → Seen e r
+unfolding codedAt notCarried outOfRange
+retrieval-at e k h =
+    let x = leb 1 (paramAt e) in
+    let y = leb 1 (lengthAt e) in
+    seen-at e RETRIEVAL-REQUEST-AND-FSNC (not (y || x)) k refl (λ t. let g = neither y x (not-true (y || x) t) in rw (g .0, g .1)) h
+
+pub unnumbered-at : (e : List ℕ) (c : ℕ) {r : Look} → at e 4 ≡ c → Known e c →
+    first (fieldChecks c (fieldsIn e)) ≡ cond (leb 1 (paramAt e)) (refused (Fault.NotCarried 5)) (cond (not (isZero (numberAt e))) (refused (Fault.NotCarried 6)) passed) →
+    r ≡ cond (not (not (isZero (numberAt e)) || leb 1 (paramAt e))) Look.Fits Look.Closer → Seen e r
+unnumbered-at e c k u f h =
+    let x = leb 1 (paramAt e) in
+    let y = not (isZero (numberAt e)) in
+    seen-at e c (not (y || x)) k u (λ t. let g = neither y x (not-true (y || x) t) in f ∙ rw (g .0, g .1)) h
+
+pub data-at : (e : List ℕ) {r : Look} → at e 4 ≡ DATA-indication → r ≡ cond (not (leb 1 (paramAt e))) Look.Fits Look.Closer → Seen e r
+unfolding codedAt notCarried outOfRange
+data-at e k h = seen-at e DATA-indication (not (leb 1 (paramAt e))) k refl (λ t. rw (not-true (leb 1 (paramAt e)) t)) h
+
+-- AND WHAT IT COMES TO
+
+told-unknown : (x : Coded) (v : Verdict Fault) → unknown x ≡ true → refused (REFUSED-CODE at-place 0) ≡ saying x v
+told-unknown Coded.Unknown v h = refl
+told-unknown (Coded.Of x) v h = absurd (true≢false (sym h))
+
+told-known : (x : Coded) (v : Verdict Fault) → unknown x ≡ false → fitting v ≡ saying x v
+told-known Coded.Unknown v h = absurd (true≢false h)
+told-known (Coded.Of x) v h = refl
+
+pub fields-unknown : (e : List ℕ) → unknown (codedIn e) ≡ true → refused (REFUSED-CODE at-place 0) ≡ fieldsOf e
 unfolding fieldsOf
-at-code e c k h g =
-    ap fitting g
-    ∙ fitted (codedAt c (paramAt e) (numberAt e) (lengthAt e) (arrived (messageOf e))) (misfit c (paramAt e) (numberAt e) (lengthAt e)) h
-    ∙ ap (λ (y : ℕ). saying (codedAt y (paramAt e) (numberAt e) (lengthAt e) (arrived (messageOf e))) (misfit y (paramAt e) (numberAt e) (lengthAt e))) (sym k)
+fields-unknown e h = told-unknown (codedIn e) (first (fieldChecks (codeAt e) (fieldsIn e))) h
 
-pub no-code : (e : List ℕ) → codedIn e ≡ Coded.Unknown → refused REFUSED-CODE ≡ fieldsOf e
+pub fields-known : (e : List ℕ) → unknown (codedIn e) ≡ false → fitting (first (fieldChecks (codeAt e) (fieldsIn e))) ≡ fieldsOf e
 unfolding fieldsOf
-no-code e h = rw h
+fields-known e h = told-known (codedIn e) (first (fieldChecks (codeAt e) (fieldsIn e))) h
 
 -- none of some numbers, the last first
 abbrev pub NoneOf : List ℕ → ℕ → Type 0
@@ -129,61 +214,6 @@ no-more c p n len a r =
       ne-eqb _ _ (r .1),
     )
 
--- the codes that carry nothing
-abbrev pub bare : ℕ → Bool
-bare c = not (hasMessage c || hasNumber c || hasParameter c)
-
-pub at-bare : (c p : ℕ) (n : Num) (len : ℕ) → bare c ≡ true → leb 1 len || not (isZero n) || leb 1 p ≡ misfit c p n len
-unfolding misfit
-at-bare c p n len h =
-    let a = neither (hasMessage c || hasNumber c) (hasParameter c) (not-true _ h) in
-    let b = neither (hasMessage c) (hasNumber c) (a .0) in
-    let m = neither (eqb c MESSAGE-FOR-TRANSMISSION || eqb c DATA-indication || eqb c UNITDATA-indication) (eqb c RETRIEVE-indication) (b .0) in
-    let m2 = neither (eqb c MESSAGE-FOR-TRANSMISSION || eqb c DATA-indication) (eqb c UNITDATA-indication) (m .0) in
-    let m3 = neither (eqb c MESSAGE-FOR-TRANSMISSION) (eqb c DATA-indication) (m2 .0) in
-    let n1 = neither (eqb c RETRIEVAL-REQUEST-AND-FSNC || eqb c RELEASE-indication) (eqb c DATA-indication) (b .1) in
-    let n2 = neither (eqb c RETRIEVAL-REQUEST-AND-FSNC) (eqb c RELEASE-indication) (n1 .0) in
-    let p1 = neither (hasField c) (eqb c CONGESTION) (a .1) in
-    let p2 = neither (eqb c ESTABLISH-indication || eqb c ESTABLISH-confirm) (eqb c RELEASE-indication) (p1 .0) in
-    let p3 = neither (eqb c ESTABLISH-indication) (eqb c ESTABLISH-confirm) (p2 .0) in
-    simp (m3 .0, m3 .1, m2 .1, m .1, n2 .0, n2 .1, p3 .0, p3 .1, p1 .1, or-false)
-
-pub at-message : (p : ℕ) (n : Num) (len : ℕ) → not (isZero n) || leb 1 p || leb len 4 ≡ misfit MESSAGE-FOR-TRANSMISSION p n len
-unfolding misfit
-at-message p n len = simp or-false
-
-pub at-retrieval : (p : ℕ) (n : Num) (len : ℕ) → leb 1 len || leb 1 p ≡ misfit RETRIEVAL-REQUEST-AND-FSNC p n len
-unfolding misfit
-at-retrieval p n len = simp or-false
-
-pub at-establish-indication : (p : ℕ) (n : Num) (len : ℕ) → leb 1 len || not (isZero n) || not (eqb p 0 || isStatus p) ≡ misfit ESTABLISH-indication p n len
-unfolding misfit
-at-establish-indication p n len = simp or-false
-
-pub at-establish-confirm : (p : ℕ) (n : Num) (len : ℕ) → leb 1 len || not (isZero n) || not (eqb p 0 || isStatus p) ≡ misfit ESTABLISH-confirm p n len
-unfolding misfit
-at-establish-confirm p n len = simp or-false
-
-pub at-release-indication : (p : ℕ) (n : Num) (len : ℕ) → leb 1 len || not (eqb p 0 || isStatus p) || not (eqb (n .a) 0 && eqb (n .b) 0 && leb (n .c) 1) ≡ misfit RELEASE-indication p n len
-unfolding misfit
-at-release-indication p n len = simp or-false
-
-pub at-data : (p : ℕ) (n : Num) (len : ℕ) → leb 1 p ≡ misfit DATA-indication p n len
-unfolding misfit
-at-data p n len = simp or-false
-
-pub at-unitdata : (p : ℕ) (n : Num) (len : ℕ) → not (isZero n) || leb 1 p ≡ misfit UNITDATA-indication p n len
-unfolding misfit
-at-unitdata p n len = simp or-false
-
-pub at-retrieve : (p : ℕ) (n : Num) (len : ℕ) → not (isZero n) || leb 1 p ≡ misfit RETRIEVE-indication p n len
-unfolding misfit
-at-retrieve p n len = simp or-false
-
-pub at-congestion : (p : ℕ) (n : Num) (len : ℕ) → leb 1 len || not (isZero n) || leb 4 p ≡ misfit CONGESTION p n len
-unfolding misfit
-at-congestion p n len = simp or-false
-
 -- WHAT A CODE SAYS, of all codes at once
 
 abbrev eventIn : Event → Coded → Event
@@ -197,7 +227,7 @@ pick P c y others true e p rest h =
 pick P c y others false e p rest h = rest h
 
 of-events : (P : ℕ → Event → Type 0) (c : ℕ) (ys : List Event) {x : Event} → Each (λ (y : Event). P (carried y .code) y) ys → among c ys ≡ Coded.Of x → P c x
-of-events P c [] a h = absurd (true≢false (sym (ap coded h)))
+of-events P c [] a h = absurd (true≢false (ap unknown h))
 of-events P c (y ∷ ys) a h = pick P c y (among c ys) (eqb c (carried y .code)) refl (a .0) (of-events P c ys (a .1)) h
 
 -- the number that a code's event keeps: the source of a release is its last octet
@@ -217,10 +247,10 @@ parameter : (t : Bool) (p : ℕ) → not t && leb 1 p ≡ false → cond t p 0 �
 parameter true p h = refl
 parameter false p h = omega (arith, leb-false 1 p h)
 
-number : (t u : Bool) (n : Num) → not u && not (isZero n) ≡ false → t && not (eqb (n .a) 0 && eqb (n .b) 0 && leb (n .c) 1) ≡ false →
+number : (t u : Bool) (n : Num) → not u && not (isZero n) ≡ false → t && not (isSource n) ≡ false →
     cond t (num 0 0 (n .c)) (cond u n none) ≡ n
 number true u n g h =
-    let w = not-false (eqb (n .a) 0 && eqb (n .b) 0 && leb (n .c) 1) h in
+    let w = not-false (isSource n) h in
     let v = left (eqb (n .a) 0 && eqb (n .b) 0) (leb (n .c) 1) w in
     let a = sym (eqb-true (n .a) 0 (left (eqb (n .a) 0) (eqb (n .b) 0) v)) in
     let b = sym (eqb-true (n .b) 0 (right (eqb (n .a) 0) (eqb (n .b) 0) v)) in
@@ -235,28 +265,15 @@ number false false n g h =
     λ i. num (a i) (b i) (c i)
 
 -- what fits is kept whole
-whole : (c p : ℕ) (n : Num) (len : ℕ) → misfit c p n len ≡ false → (cond (hasParameter c) p 0 ≡ p) × (kept c n ≡ n)
-unfolding misfit
+whole : (c p : ℕ) (n : Num) (len : ℕ) → first (fieldChecks c (fields p n len)) ≡ passed → (cond (hasParameter c) p 0 ≡ p) × (kept c n ≡ n)
 whole c p n len h =
-    let m1 = not (hasMessage c) && leb 1 len in
-    let m2 = not (hasNumber c) && not (isZero n) in
-    let m3 = not (hasParameter c) && leb 1 p in
-    let m4 = hasField c && not (eqb p 0 || isStatus p) in
-    let m5 = eqb c CONGESTION && leb 4 p in
-    let m6 = eqb c RELEASE-indication && not (eqb (n .a) 0 && eqb (n .b) 0 && leb (n .c) 1) in
-    let m7 = eqb c MESSAGE-FOR-TRANSMISSION && leb len 4 in
-    let h6 = neither (m1 || m2 || m3 || m4 || m5 || m6) m7 h .0 in
-    let h5 = neither (m1 || m2 || m3 || m4 || m5) m6 h6 in
-    let h4 = neither (m1 || m2 || m3 || m4) m5 (h5 .0) .0 in
-    let h3 = neither (m1 || m2 || m3) m4 h4 .0 in
-    let h2 = neither (m1 || m2) m3 h3 in
-    let h1 = neither m1 m2 (h2 .0) in
-    (parameter (hasParameter c) p (h2 .1), number (eqb c RELEASE-indication) (hasNumber c) n (h1 .1) (h5 .1))
+    let k = clear (fieldChecks c (fields p n len)) h in
+    (parameter (hasParameter c) p (parameter-not-carried c p ∙ k .0), number (eqb c RELEASE-indication) (hasNumber c) n (number-not-carried c n ∙ k .1 .0) (source-out-of-range c n ∙ k .1 .1 .1 .1 .0))
 
 -- WRITING WHAT WAS READ
 
-known : (x : Coded) → coded x ≡ true → x ≡ Coded.Of (said x)
-known Coded.Unknown h = absurd (true≢false (sym h))
+known : (x : Coded) → unknown x ≡ false → x ≡ Coded.Of (said x)
+known Coded.Unknown h = absurd (true≢false h)
 known (Coded.Of x) h = refl
 
 pub rewritten : Rewritten
@@ -287,11 +304,11 @@ module _ (l c p : ℕ) (n : Num) (m : List ℕ) where
   unfolding written
   names = two-back l
 
-  fits : {x : Event} → codedAt c p n (length m) (arrived m) ≡ Coded.Of x → misfit c p n (length m) ≡ false → fieldsOf (written EV l c p n m) ≡ accepted tt
+  fits : {x : Event} → codedAt c p n (length m) (arrived m) ≡ Coded.Of x → first (fieldChecks c (fields p n (length m))) ≡ passed → fieldsOf (written EV l c p n m) ≡ passed
   unfolding fieldsOf written
   fits k f = rw (two-back (length m), k, f)
 
-  row : {x : Event} → length m ≤ 4096 → codedAt c p n (length m) (arrived m) ≡ Coded.Of x → misfit c p n (length m) ≡ false → Holds (written EV l c p n m) l x
+  row : {x : Event} → length m ≤ 4096 → codedAt c p n (length m) (arrived m) ≡ Coded.Of x → first (fieldChecks c (fields p n (length m))) ≡ passed → Holds (written EV l c p n m) l x
   unfolding readingOf
   row h k f = record { fits = rw (frame-reread EV l c p n m h) (fits k f); link = names; event = ap said (says ∙ k) }
 

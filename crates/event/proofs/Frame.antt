@@ -114,11 +114,11 @@ frame-rewritten mark r o f =
 
 -- THE LENGTH OF A SOUND FRAME, which is that of its message and twelve
 
-pub at-most : (a b n : ℕ) → 12 + a ≡ n → leb n (12 + b) ≡ leb a b
-at-most a b n h = by (leb a b) refl where
-  by : (x : Bool) → leb a b ≡ x → leb n (12 + b) ≡ x
-  by true e = le-leb n (12 + b) (omega (arith, leb-true a b e))
-  by false e = lt-leb n (12 + b) (omega (arith, leb-false a b e))
+pub at-least : (a b n : ℕ) → 12 + a ≡ n → leb (12 + b) n ≡ leb b a
+at-least a b n h = by (leb b a) refl where
+  by : (x : Bool) → leb b a ≡ x → leb (12 + b) n ≡ x
+  by true e = le-leb (12 + b) n (omega (arith, leb-true b a e))
+  by false e = lt-leb (12 + b) n (omega (arith, leb-false b a e))
 
 pub some-message : (a n : ℕ) → 12 + a ≡ n → ltb 12 n ≡ leb 1 a
 some-message a n h = by (leb 1 a) refl where

@@ -1,3 +1,4 @@
+pub mod Fields
 pub mod EventRecord
 pub mod EndToEnd
 pub mod Frame

@@ -13,6 +13,10 @@ use Rattle.event.proofs.event.Kinds as event-kinds
 use Rattle.event.proofs.event.Reads as event
 use Rattle.event.proofs.link.Kinds as link-kinds
 use Rattle.event.proofs.link.Reads as link
+use Rattle.event.proofs.Fault.number.Kinds as number-kinds
+use Rattle.event.proofs.Fault.number.Reads as number
+use Rattle.event.proofs.Fault.place.Kinds as place-kinds
+use Rattle.event.proofs.Fault.place.Reads as place
 use Rattle.event.proofs.read_event.Kinds as read-event-kinds
 use Rattle.event.proofs.read_event.Reads as read-event
 
@@ -31,3 +35,9 @@ link-one κs arguments x y e f = equal
 
 pub read-event-one : OneAnswer read-event-kinds.ps read-event-kinds.r read-event.Post
 read-event-one κs arguments x y e f p q = one-reading x y (equal p q)
+
+pub number-one : OneAnswer number-kinds.ps number-kinds.r number.Post
+number-one κs arguments x y e f = equal
+
+pub place-one : OneAnswer place-kinds.ps place-kinds.r place.Post
+place-one κs arguments x y e f = equal

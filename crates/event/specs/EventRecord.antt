@@ -1,27 +1,28 @@
--- The event record of document 01: when its frame is sound, what a code says, and which fields fit it.
+-- The event record of document 01: when its frame is sound, what a code says, and whether its fields fit it.
 use Prim.Native.Nat.{ℕ, _≤_}
 use mathlib.Core.Path.{_≡_}
-use mathlib.Core.Bool.{Bool, true, false, cond, not, _&&_, _||_}
+use mathlib.Core.Bool.{Bool, true, false, cond}
 use mathlib.Core.List.{List, [], _∷_}
-use lib.Dec.{eqb, leb}
+use lib.Dec.{eqb}
 use lib.ListN.{length}
 use Rattle.unit.specs.declared.Arrived.{Arrived}
-use Rattle.unit.specs.declared.Field.{Field}
-use Rattle.unit.specs.Unit.{decoded, arrived}
-use Rattle.unit.specs.Answered.{Answered, refused, accepted}
+use Rattle.unit.specs.Unit.{arrived}
+use Rattle.unit.specs.Checks.{Verdict, passed, refused, first}
 use Rattle.table6.specs.EventCodes.{MESSAGE-FOR-TRANSMISSION, EMERGENCY, EMERGENCY-CEASES, STOP, START, RETRIEVE-BSNT, RETRIEVAL-REQUEST-AND-FSNC, FLUSH-BUFFERS, CONTINUE}
 use Rattle.table6.specs.EventCodes.{ESTABLISH-indication, ESTABLISH-confirm, RELEASE-indication, RELEASE-confirm, DATA-indication, RESYNC-indication, RECOVER-indication}
 use Rattle.table6.specs.EventCodes.{UNITDATA-indication, RETRIEVE-indication, RETRIEVE-COMPLETE-indication}
 use Rattle.table6.specs.EventCodes.{PROVING-UNSUCCESSFUL, RELEASE, OUTAGE, RECOVERED, FORCE-PROVING, FORCE-EMERGENCY, CLEAR-FORCE-MODES, CONGESTION, CONGESTION-CEASED}
 use Rattle.table6.specs.EventCodes.{T1-expired, T2-expired, T3-expired}
-use Rattle.table6.specs.RefusalCodes.{REFUSED-FRAME, REFUSED-CODE, REFUSED-FIELD}
+use Rattle.table6.specs.RefusalCodes.{REFUSED-FRAME, REFUSED-CODE}
 use Rattle.link.specs.declared.Num.{Num}
 use Rattle.link.specs.declared.Event.{Event}
 use Rattle.link.specs.declared.Event.the-variants as event
 use Rattle.event.specs.declared.Reading.{Reading}
+use Rattle.event.specs.declared.Fault.{Fault}
 use Rattle.link.specs.Signal.{num, none}
 use Rattle.octet.specs.Octets.{Octets}
 use Rattle.event.specs.Frame.{messageOctets, EV, framedAs, written, linkAt, codeAt, paramAt, numberAt, lengthAt, messageOf}
+use Rattle.event.specs.Fields.{faultNumber, faultPlace, EventField, fields, fieldChecks}
 
 abbrev pub framed : List ℕ → Bool
 framed e = framedAs EV e
@@ -129,63 +130,44 @@ said (Coded.Of x) = x
 abbrev pub eventOf : List ℕ → Event
 eventOf e = said (codedIn e)
 
--- FIELDS
+abbrev pub unknown : Coded → Bool
+unknown Coded.Unknown = true
+unknown (Coded.Of x) = false
 
-abbrev pub isNamed : Field → Bool
-isNamed (Field.Named s) = true
-isNamed Field.Unnamed = false
+abbrev pub fieldsIn : List ℕ → List EventField
+fieldsIn e = fields (paramAt e) (numberAt e) (lengthAt e)
 
-abbrev pub isStatus : ℕ → Bool
-isStatus field = isNamed (decoded field)
+-- WHAT OCTETS ARE AS AN EVENT RECORD: refused by the first of checks 2, 3, 10, 11 and 12 that holds, or sound.
 
-abbrev pub hasMessage : ℕ → Bool
-hasMessage c = eqb c MESSAGE-FOR-TRANSMISSION || eqb c DATA-indication || eqb c UNITDATA-indication || eqb c RETRIEVE-indication
+-- A refusal's number and its place, 0 where it names none.
+pub record Refused : Type 0 where
+  pub number : ℕ
+  pub place : ℕ
 
-abbrev pub hasNumber : ℕ → Bool
-hasNumber c = eqb c RETRIEVAL-REQUEST-AND-FSNC || eqb c RELEASE-indication || eqb c DATA-indication
+infixl 20 _at-place_
+abbrev pub _at-place_ : ℕ → ℕ → Refused
+n at-place q = record { number = n; place = q }
 
--- the parameter is a status field
-abbrev pub hasField : ℕ → Bool
-hasField c = eqb c ESTABLISH-indication || eqb c ESTABLISH-confirm || eqb c RELEASE-indication
+-- The reader's answers in the papers' numbers. A sound record brings no value with it: what it holds is read off its octets.
+abbrev pub reading : Reading → Verdict Refused
+reading Reading.BadFrame = refused (REFUSED-FRAME at-place 0)
+reading Reading.UnknownCode = refused (REFUSED-CODE at-place 0)
+reading (Reading.Misfit f) = refused (faultNumber f at-place faultPlace f)
+reading Reading.Fits = passed
 
-abbrev pub hasParameter : ℕ → Bool
-hasParameter c = hasField c || eqb c CONGESTION
+abbrev pub fitting : Verdict Fault → Verdict Refused
+fitting passed = passed
+fitting (refused f) = refused (faultNumber f at-place faultPlace f)
 
-abbrev pub isZero : Num → Bool
-isZero n = eqb (n .a) 0 && eqb (n .b) 0 && eqb (n .c) 0
+abbrev pub saying : Coded → Verdict Fault → Verdict Refused
+saying Coded.Unknown v = refused (REFUSED-CODE at-place 0)
+saying (Coded.Of x) v = fitting v
 
--- "A field set that the code doesn't carry (a length above 0 counts as one), a parameter or source out of range, or a user message under 5 octets."
-unfoldable pub misfit : ℕ → ℕ → Num → ℕ → Bool
-misfit c p n len =
-    (not (hasMessage c) && leb 1 len)
-    || (not (hasNumber c) && not (isZero n))
-    || (not (hasParameter c) && leb 1 p)
-    || (hasField c && not (eqb p 0 || isStatus p))
-    || (eqb c CONGESTION && leb 4 p)
-    || (eqb c RELEASE-indication && not (eqb (n .a) 0 && eqb (n .b) 0 && leb (n .c) 1))
-    || (eqb c MESSAGE-FOR-TRANSMISSION && leb len 4)
+unfoldable pub fieldsOf : List ℕ → Verdict Refused
+fieldsOf e = saying (codedIn e) (first (fieldChecks (codeAt e) (fieldsIn e)))
 
--- WHAT OCTETS ARE AS AN EVENT RECORD: refused by the first of checks 2, 3 and 4 that holds, or sound.
-
--- The reader's answers in document 01's numbers. A sound record brings no value with it: what it holds is read off its octets.
-abbrev pub reading : Reading → Answered (Unit {0})
-reading Reading.BadFrame = refused REFUSED-FRAME
-reading Reading.UnknownCode = refused REFUSED-CODE
-reading Reading.Misfit = refused REFUSED-FIELD
-reading Reading.Fits = accepted tt
-
-abbrev pub fitting : Bool → Answered (Unit {0})
-fitting misfits = cond misfits (refused REFUSED-FIELD) (accepted tt)
-
-abbrev pub saying : Coded → Bool → Answered (Unit {0})
-saying Coded.Unknown misfits = refused REFUSED-CODE
-saying (Coded.Of x) misfits = fitting misfits
-
-unfoldable pub fieldsOf : List ℕ → Answered (Unit {0})
-fieldsOf e = saying (codedIn e) (misfit (codeAt e) (paramAt e) (numberAt e) (lengthAt e))
-
-unfoldable pub readingOf : List ℕ → Answered (Unit {0})
-readingOf e = cond (framed e) (fieldsOf e) (refused REFUSED-FRAME)
+unfoldable pub readingOf : List ℕ → Verdict Refused
+readingOf e = cond (framed e) (fieldsOf e) (refused (REFUSED-FRAME at-place 0))
 
 -- ROUND TRIPS
 
@@ -195,7 +177,7 @@ Each P (x ∷ others) = P x × Each P others
 
 -- Octets that hold an event for a link.
 pub record Holds (e : List ℕ) (k : ℕ) (x : Event) : Type 0 where
-  pub fits : readingOf e ≡ accepted tt
+  pub fits : readingOf e ≡ passed
   pub link : linkAt e ≡ k
   pub event : eventOf e ≡ x
 
@@ -203,7 +185,7 @@ pub record Holds (e : List ℕ) (k : ℕ) (x : Event) : Type 0 where
 abbrev pub Reread : Type 0
 Reread =
     (link p : ℕ) (n : Num) (m : List ℕ) → length m ≤ messageOctets →
-    Each (λ x. misfit (carried x .code) p n (length m) ≡ false → Holds (written EV link (carried x .code) p n m) link x) (events p n (length m) (arrived m))
+    Each (λ x. first (fieldChecks (carried x .code) (fields p n (length m))) ≡ passed → Holds (written EV link (carried x .code) p n m) link x) (events p n (length m) (arrived m))
 
 abbrev pub eventOctets : ℕ → Event → List ℕ → List ℕ
 eventOctets link e m = written EV link (carried e .code) (carried e .param) (carried e .num) m

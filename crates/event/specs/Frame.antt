@@ -41,7 +41,16 @@ headOf mark link c p n len =
 unfoldable pub written : List ℕ → ℕ → ℕ → ℕ → Num → List ℕ → List ℕ
 written mark link c p n m = headOf mark link c p n (length m) ++ m
 
--- What stands where.
+-- What stands where; the fields that a code may carry, by the place of their first octet.
+abbrev pub parameterPlace : ℕ
+parameterPlace = 5
+
+abbrev pub numberPlace : ℕ
+numberPlace = 6
+
+abbrev pub lengthPlace : ℕ
+lengthPlace = 10
+
 abbrev pub linkAt : List ℕ → ℕ
 linkAt r = two (at r 2) (at r 3)
 
@@ -49,13 +58,13 @@ abbrev pub codeAt : List ℕ → ℕ
 codeAt r = at r 4
 
 abbrev pub paramAt : List ℕ → ℕ
-paramAt r = at r 5
+paramAt r = at r parameterPlace
 
 abbrev pub numberAt : List ℕ → Num
-numberAt r = record { a = at r 6; b = at r 7; c = at r 8 }
+numberAt r = record { a = at r numberPlace; b = at r (numberPlace + 1); c = at r (numberPlace + 2) }
 
 abbrev pub lengthAt : List ℕ → ℕ
-lengthAt r = two (at r 10) (at r 11)
+lengthAt r = two (at r lengthPlace) (at r (lengthPlace + 1))
 
 abbrev pub messageOf : List ℕ → List ℕ
 messageOf r = drop headOctets r

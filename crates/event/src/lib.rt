@@ -8,12 +8,17 @@ use table6::events;
 use unit::Field;
 ghost use mathlib.Core.Path.{_≡_};
 ghost use mathlib.Core.Bool.{cond, not, _||_};
+ghost use Rattle.unit.specs.Checks.{first};
+ghost use Rattle.table6.specs.EventCodes.{ESTABLISH-indication, ESTABLISH-confirm, RELEASE-indication};
 ghost use Prim.Native.Nat.{_+_, _≤_};
 ghost use lib.Dec.{eqb, leb};
 ghost use lib.ListN.{length};
-ghost use Rattle.event.specs.Frame.{headOctets, linkAt, paramAt, numberAt, lengthAt, messageOf};
+ghost use Rattle.event.specs.declared.Look.{Look};
+ghost use Rattle.event.specs.Frame.{headOctets, linkAt, codeAt, paramAt, numberAt, lengthAt, messageOf};
 ghost use Rattle.event.specs.EndToEnd.{sound};
-ghost use Rattle.event.specs.EventRecord.{framed, eventOf, isStatus, isZero, reading, fitting, fieldsOf, readingOf};
+ghost use Rattle.event.specs.Fields.{faultNumber, faultPlace, isStatus, noneOrStatus, isZero, parameterField, numberField, lengthField, notCarried, outOfRange, fieldChecks};
+ghost use Rattle.event.specs.EventRecord.{framed, eventOf, fieldsIn, reading, fitting, fieldsOf, readingOf};
+ghost use Rattle.event.specs.Look.{Seen};
 
 // The octets of a record before its message, and the most of a message.
 pub const HEAD: usize = 12;
@@ -143,28 +148,54 @@ fn is_status(field: u8) -> bool
 
 // A field of a peer that is neither none nor one of the nine.
 fn bad_field(field: u8) -> bool
-    ensures { λ r. ⌜ r ≡ not (eqb field 0 || isStatus field) ⌝ }
+    ensures { λ r. ⌜ r ≡ not (noneOrStatus field) ⌝ }
 {
     if field == 0 { false } else { !is_status(field) }
 }
 
-// What octets are as an event record: one that fits its code, or the first of checks 2, 3 and 4 that refuses them.
+// What is wrong with a field, with the place of its first octet.
+pub enum Fault {
+    NotCarried(u8),
+    OutOfRange(u8),
+    Short(u8),
+}
+
+impl Fault {
+    pub fn number(self) -> u32
+        ensures { λ r. ⌜ r ≡ faultNumber self ⌝ }
+    {
+        match self {
+            Fault::NotCarried(_) => 10,
+            Fault::OutOfRange(_) => 11,
+            Fault::Short(_) => 12,
+        }
+    }
+
+    pub fn place(self) -> u32
+        ensures { λ r. ⌜ r ≡ faultPlace self ⌝ }
+    {
+        match self {
+            Fault::NotCarried(place) => place as u32,
+            Fault::OutOfRange(place) => place as u32,
+            Fault::Short(place) => place as u32,
+        }
+    }
+}
+
+// What octets are as an event record: one that fits its code, or the first of the checks 2, 3, 10, 11 and 12 that refuses them.
 pub enum Reading {
     BadFrame,
     UnknownCode,
-    Misfit,
+    Misfit(Fault),
     Fits,
 }
 
-fn fits(misfit: bool) -> Reading
-    ensures { λ r. ⌜ reading r ≡ fitting misfit ⌝ }
-{
-    if misfit {
-        Reading::Misfit
-    } else {
-        Reading::Fits
-    }
-}
+// Where the fields begin.
+const PARAMETER: u8 = 5;
+
+const NUMBER: u8 = 6;
+
+const LENGTH: u8 = 10;
 
 // A message, where the frame is sound.
 fn lengthy(e: &[u8]) -> bool
@@ -172,6 +203,14 @@ fn lengthy(e: &[u8]) -> bool
     ensures { λ r. ⌜ r ≡ leb 1 (lengthAt (now (e .entry))) ⌝ }
 {
     HEAD < e.len()
+}
+
+// A message of at least five octets, where the frame is sound.
+fn long_enough(e: &[u8]) -> bool
+    requires { ⌜ headOctets + lengthAt (now e) ≡ length (now e) ⌝ }
+    ensures { λ r. ⌜ r ≡ leb 5 (lengthAt (now (e .entry))) ⌝ }
+{
+    HEAD + 5 <= e.len()
 }
 
 // A number that is not 0.
@@ -182,41 +221,153 @@ fn numbered(e: &[u8]) -> bool
     !((e[6] == 0) & (e[7] == 0) & (e[8] == 0))
 }
 
-// The fields of a code that carries none.
-fn bare(e: &[u8]) -> Reading
-    requires { ⌜ (headOctets ≤ length (now e)) × (headOctets + lengthAt (now e) ≡ length (now e)) ⌝ }
-    ensures { λ r. ⌜ reading r ≡ fitting (leb 1 (lengthAt (now (e .entry))) || not (isZero (numberAt (now (e .entry)))) || leb 1 (paramAt (now (e .entry)))) ⌝ }
+// A code with a status field.
+fn has_field(code: u8) -> bool
+    ensures { λ r. ⌜ r ≡ eqb code ESTABLISH-indication || eqb code ESTABLISH-confirm || eqb code RELEASE-indication ⌝ }
 {
-    fits(lengthy(e) | numbered(e) | (1 <= e[5]))
+    (code == events::ESTABLISH_INDICATION)
+        | (code == events::ESTABLISH_CONFIRM)
+        | (code == events::RELEASE_INDICATION)
 }
 
-// Checks 3 and 4 of a sound frame: the code, and that no field is set that it doesn't carry, none out of range, and no user's message that would be taken for a unit.
-fn fields(e: &[u8]) -> Reading
+// Of each field: whether it is set with a code that does not carry it.
+fn parameter_not_carried(e: &[u8]) -> bool
+    requires { ⌜ headOctets ≤ length (now e) ⌝ }
+    ensures { λ r. ⌜ r ≡ notCarried (codeAt (now (e .entry))) (parameterField (paramAt (now (e .entry)))) ⌝ }
+{
+    let code = e[4];
+    !(has_field(code) | (code == events::CONGESTION)) & (1 <= e[5])
+}
+
+fn number_not_carried(e: &[u8]) -> bool
+    requires { ⌜ headOctets ≤ length (now e) ⌝ }
+    ensures { λ r. ⌜ r ≡ notCarried (codeAt (now (e .entry))) (numberField (numberAt (now (e .entry)))) ⌝ }
+{
+    let code = e[4];
+    !((code == events::RETRIEVAL_REQUEST_AND_FSNC)
+        | (code == events::RELEASE_INDICATION)
+        | (code == events::DATA_INDICATION))
+        & numbered(e)
+}
+
+fn length_not_carried(e: &[u8]) -> bool
     requires { ⌜ (headOctets ≤ length (now e)) × (headOctets + lengthAt (now e) ≡ length (now e)) ⌝ }
-    ensures { λ r. ⌜ reading r ≡ fieldsOf (now (e .entry)) ⌝ }
+    ensures { λ r. ⌜ r ≡ notCarried (codeAt (now (e .entry))) (lengthField (lengthAt (now (e .entry)))) ⌝ }
+{
+    let code = e[4];
+    !((code == events::MESSAGE_FOR_TRANSMISSION)
+        | (code == events::DATA_INDICATION)
+        | (code == events::UNITDATA_INDICATION)
+        | (code == events::RETRIEVE_INDICATION))
+        & lengthy(e)
+}
+
+// And whether it is out of its range with one that does.
+fn parameter_out_of_range(e: &[u8]) -> bool
+    requires { ⌜ headOctets ≤ length (now e) ⌝ }
+    ensures { λ r. ⌜ r ≡ outOfRange (codeAt (now (e .entry))) (parameterField (paramAt (now (e .entry)))) ⌝ }
+{
+    if e[4] == events::CONGESTION {
+        return !(e[5] <= 3);
+    }
+    has_field(e[4]) & bad_field(e[5])
+}
+
+fn number_out_of_range(e: &[u8]) -> bool
+    requires { ⌜ headOctets ≤ length (now e) ⌝ }
+    ensures { λ r. ⌜ r ≡ outOfRange (codeAt (now (e .entry))) (numberField (numberAt (now (e .entry)))) ⌝ }
+{
+    let source = (e[6] == 0) & (e[7] == 0) & (e[8] <= 1);
+    (e[4] == events::RELEASE_INDICATION) & !source
+}
+
+fn length_out_of_range(e: &[u8]) -> bool
+    requires { ⌜ (headOctets ≤ length (now e)) × (headOctets + lengthAt (now e) ≡ length (now e)) ⌝ }
+    ensures { λ r. ⌜ r ≡ outOfRange (codeAt (now (e .entry))) (lengthField (lengthAt (now (e .entry)))) ⌝ }
+{
+    (e[4] == events::MESSAGE_FOR_TRANSMISSION) & !long_enough(e)
+}
+
+// Checks 10, 11 and 12, field by field.
+fn field_by_field(e: &[u8]) -> Reading
+    requires { ⌜ (headOctets ≤ length (now e)) × (headOctets + lengthAt (now e) ≡ length (now e)) ⌝ }
+    ensures { λ r. ⌜ reading r ≡ fitting (first (fieldChecks (codeAt (now (e .entry))) (fieldsIn (now (e .entry))))) ⌝ }
+{
+    if parameter_not_carried(e) {
+        return Reading::Misfit(Fault::NotCarried(PARAMETER));
+    }
+    if number_not_carried(e) {
+        return Reading::Misfit(Fault::NotCarried(NUMBER));
+    }
+    if length_not_carried(e) {
+        return Reading::Misfit(Fault::NotCarried(LENGTH));
+    }
+    if parameter_out_of_range(e) {
+        return Reading::Misfit(Fault::OutOfRange(PARAMETER));
+    }
+    if number_out_of_range(e) {
+        return Reading::Misfit(Fault::OutOfRange(NUMBER));
+    }
+    if length_out_of_range(e) {
+        return Reading::Misfit(Fault::Short(LENGTH));
+    }
+    Reading::Fits
+}
+
+// What a look by the code can tell: that there is none such, that all fits, or that the fields are to be looked at one by one.
+enum Look {
+    Unknown,
+    Fits,
+    Closer,
+}
+
+// What one test of all fields tells.
+fn glance(fits: bool) -> Look
+    ensures { λ r. ⌜ r ≡ cond fits Look.Fits Look.Closer ⌝ }
+{
+    if fits { Look::Fits } else { Look::Closer }
+}
+
+// Of a code that carries nothing.
+fn bare(e: &[u8]) -> Look
+    requires { ⌜ (headOctets ≤ length (now e)) × (headOctets + lengthAt (now e) ≡ length (now e)) ⌝ }
+    ensures { λ r. ⌜ r ≡ cond (not (leb 1 (lengthAt (now (e .entry))) || not (isZero (numberAt (now (e .entry)))) || leb 1 (paramAt (now (e .entry))))) Look.Fits Look.Closer ⌝ }
+{
+    glance(!(lengthy(e) | numbered(e) | (1 <= e[5])))
+}
+
+// Of a code with a status field alone.
+fn established(e: &[u8]) -> Look
+    requires { ⌜ (headOctets ≤ length (now e)) × (headOctets + lengthAt (now e) ≡ length (now e)) ⌝ }
+    ensures { λ r. ⌜ r ≡ cond (not (leb 1 (lengthAt (now (e .entry))) || not (isZero (numberAt (now (e .entry)))) || not (noneOrStatus (paramAt (now (e .entry)))))) Look.Fits Look.Closer ⌝ }
+{
+    glance(!(lengthy(e) | numbered(e) | bad_field(e[5])))
+}
+
+// The codes, and of all but two of them whether all fits, in one test: so that nothing else is asked, and nothing held meanwhile (D92).
+fn at_once(e: &[u8]) -> Look
+    requires { ⌜ (headOctets ≤ length (now e)) × (headOctets + lengthAt (now e) ≡ length (now e)) ⌝ }
+    ensures { λ r. ⌜ Seen (now (e .entry)) r ⌝ }
 {
     match e[4] {
-        events::MESSAGE_FOR_TRANSMISSION => fits(numbered(e) | (1 <= e[5]) | (e.len() <= HEAD + 4)),
+        events::MESSAGE_FOR_TRANSMISSION => glance(!(numbered(e) | (1 <= e[5]) | !long_enough(e))),
         events::EMERGENCY => bare(e),
         events::EMERGENCY_CEASES => bare(e),
         events::STOP => bare(e),
         events::START => bare(e),
         events::RETRIEVE_BSNT => bare(e),
-        events::RETRIEVAL_REQUEST_AND_FSNC => fits(lengthy(e) | (1 <= e[5])),
+        events::RETRIEVAL_REQUEST_AND_FSNC => glance(!(lengthy(e) | (1 <= e[5]))),
         events::FLUSH_BUFFERS => bare(e),
         events::CONTINUE => bare(e),
-        events::ESTABLISH_INDICATION => fits(lengthy(e) | numbered(e) | bad_field(e[5])),
-        events::ESTABLISH_CONFIRM => fits(lengthy(e) | numbered(e) | bad_field(e[5])),
-        events::RELEASE_INDICATION => {
-            let small = (e[6] == 0) & (e[7] == 0) & (e[8] <= 1);
-            fits(lengthy(e) | bad_field(e[5]) | !small)
-        }
+        events::ESTABLISH_INDICATION => established(e),
+        events::ESTABLISH_CONFIRM => established(e),
+        events::RELEASE_INDICATION => Look::Closer,
         events::RELEASE_CONFIRM => bare(e),
-        events::DATA_INDICATION => fits(1 <= e[5]),
+        events::DATA_INDICATION => glance(!(1 <= e[5])),
         events::RESYNC_INDICATION => bare(e),
         events::RECOVER_INDICATION => bare(e),
-        events::UNITDATA_INDICATION => fits(numbered(e) | (1 <= e[5])),
-        events::RETRIEVE_INDICATION => fits(numbered(e) | (1 <= e[5])),
+        events::UNITDATA_INDICATION => glance(!(numbered(e) | (1 <= e[5]))),
+        events::RETRIEVE_INDICATION => glance(!(numbered(e) | (1 <= e[5]))),
         events::RETRIEVE_COMPLETE_INDICATION => bare(e),
         events::PROVING_UNSUCCESSFUL => bare(e),
         events::RELEASE => bare(e),
@@ -225,12 +376,24 @@ fn fields(e: &[u8]) -> Reading
         events::FORCE_PROVING => bare(e),
         events::FORCE_EMERGENCY => bare(e),
         events::CLEAR_FORCE_MODES => bare(e),
-        events::CONGESTION => fits(lengthy(e) | numbered(e) | (4 <= e[5])),
+        events::CONGESTION => Look::Closer,
         events::CONGESTION_CEASED => bare(e),
         events::T1_EXPIRED => bare(e),
         events::T2_EXPIRED => bare(e),
         events::T3_EXPIRED => bare(e),
-        _ => Reading::UnknownCode,
+        _ => Look::Unknown,
+    }
+}
+
+// Checks 3, 10, 11 and 12 of a sound frame.
+fn checked(e: &[u8]) -> Reading
+    requires { ⌜ (headOctets ≤ length (now e)) × (headOctets + lengthAt (now e) ≡ length (now e)) ⌝ }
+    ensures { λ r. ⌜ reading r ≡ fieldsOf (now (e .entry)) ⌝ }
+{
+    match at_once(e) {
+        Look::Unknown => Reading::UnknownCode,
+        Look::Fits => Reading::Fits,
+        Look::Closer => field_by_field(e),
     }
 }
 
@@ -238,7 +401,7 @@ pub fn read_event(e: &[u8]) -> Reading
     ensures { λ r. ⌜ reading r ≡ readingOf (now (e .entry)) ⌝ }
 {
     if framed(e) {
-        fields(e)
+        checked(e)
     } else {
         Reading::BadFrame
     }

@@ -39,7 +39,8 @@ use Rattle.octet.specs.Octets.{at}
 use Rattle.record.specs.LinkRecord.{linkOf, octetsOf}
 use Rattle.record.proofs.LinkRecord.{unpacked}
 use Rattle.event.specs.Frame.{written, linkAt, codeAt, paramAt, numberAt, lengthAt, messageOf}
-use Rattle.event.specs.EventRecord.{codedAt, said, eventOf, misfit}
+use Rattle.event.specs.EventRecord.{codedAt, said, eventOf}
+use Rattle.event.specs.Fields.{notCarried, outOfRange}
 use Rattle.signal.specs.SignalRecord.{signalOctets}
 use Rattle.step.specs.Step.{recordAt, stepCall}
 use Rattle.step.proofs.Untouched.{accepted-written}
@@ -303,7 +304,7 @@ retrieve-bsnt =
 
 -- WHERE IT IS TAKEN
 hands-retrieve : (k : ℕ) → Hands (plain RETRIEVE-BSNT k) k RETRIEVE-BSNT event.RetrieveBsnt
-unfolding codedAt misfit
+unfolding codedAt notCarried outOfRange
 hands-retrieve k = hands k RETRIEVE-BSNT 0 link.none [] (omega arith) refl refl
 
 out-of-service : (idle known : Bool) (n : Num) (l : Link) → let m = with-state (cond idle 1/1/1 1/4/1) (with-bsnt record { known = known; num = n } l) in

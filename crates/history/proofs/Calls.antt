@@ -12,18 +12,19 @@ use Rattle.link.specs.declared.Signal.{Signal}
 use Rattle.link.specs.Fresh.{freshLink}
 use Rattle.link.specs.Step as machine
 use Rattle.record.specs.LinkRecord.{linkOf, octetsOf}
-use Rattle.event.specs.Frame.{linkAt, codeAt, paramAt, numberAt, lengthAt, messageOf}
-use Rattle.event.specs.EventRecord.{framed, codedIn, eventOf, misfit}
+use Rattle.event.specs.Frame.{linkAt, codeAt, messageOf}
+use Rattle.event.specs.EventRecord.{framed, codedIn, unknown, eventOf, fieldsIn}
+use Rattle.event.specs.Fields.{fieldChecks}
 use Rattle.signal.specs.SignalRecord.{signalOctets, joined}
 use Rattle.record.proofs.LinkRecord.{unpacked, octets-length}
 use Rattle.signal.proofs.SignalRecord.{signals-apart}
 use Rattle.step.specs.declared.Refusal.{Refusal}
 use Rattle.unit.specs.Checks.{Verdict, passed, refused, first}
-use Rattle.step.specs.Step.{records, recordAt, linkFor, unknown, checks, Outcome, stepCall}
+use Rattle.step.specs.Step.{records, recordAt, linkFor, checks, Outcome, stepCall}
 use Rattle.sscf.specs.Fresh as maker
 use Rattle.sscf.specs.Fresh.{freshChecks, freshCall}
 use Rattle.step.specs.Untouched.{Written}
-use Rattle.unit.proofs.Checks.{clear}
+use Rattle.unit.proofs.Checks.{clear, none}
 use Rattle.step.proofs.Taken.{taken}
 use Rattle.step.proofs.Untouched.{either-way, number-above, refusals-untouched, same-lengths, others-untouched, accepted-written}
 use Rattle.sscf.proofs.Copies.{length-copies}
@@ -59,16 +60,17 @@ cut-joined k m (s ∷ ss) =
 pub emitted-ones : (t e : List ℕ) (after : Outcome) (w : Written t e after) → signalsIn after ≡ map (signalOctets (linkAt e) (messageOf e)) (w .signals)
 emitted-ones t e after w = rw (w .counted, w .octets) (cut-joined (linkAt e) (messageOf e) (w .signals))
 
--- AN EVENT THAT IS TAKEN: checks 2 to 4 have passed it
+-- AN EVENT THAT IS TAKEN: the checks of its frame, its code and its fields have passed it
 pub record Passed (e : List ℕ) : Type 0 where
   pub sound : framed e ≡ true
   pub known : unknown (codedIn e) ≡ false
-  pub fits : misfit (codeAt e) (paramAt e) (numberAt e) (lengthAt e) ≡ false
+  pub fits : first (fieldChecks (codeAt e) (fieldsIn e)) ≡ passed
 
 passed-by : (t e : List ℕ) (room : ℕ) → first (checks t e room) ≡ passed → Passed e
 passed-by t e room h =
     let c = clear (checks t e room) h in
-    record { sound = taken t e room h .sound; known = c .1 .1 .0; fits = c .1 .1 .1 .0 }
+    let f = c .1 .1 .1 in
+    record { sound = taken t e room h .sound; known = c .1 .1 .0; fits = none (fieldChecks (codeAt e) (fieldsIn e)) (f .0, (f .1 .0, (f .1 .1 .0, (f .1 .1 .1 .0, (f .1 .1 .1 .1 .0, (f .1 .1 .1 .1 .1 .0, tt)))))) }
 
 -- AN INVARIANT of a link and its history, with the n1 that the table was made with
 module _ (I : ℕ → Link → List Mark → Type 0) where
@@ -91,10 +93,10 @@ module _ (I : ℕ → Link → List Mark → Type 0) where
   abbrev Good : World → Type 0
   Good w = (k : ℕ) → k < records (w .table) → Kept (w .n1) (recordAt (w .table) k) (history w k)
 
-pub made-length : (buffer : List ℕ) (n1 : ℕ) → freshCall buffer n1 .answer ≡ 0 → length (freshCall buffer n1 .table) ≡ 16 * records buffer
+pub made-length : (buffer : List ℕ) (n1 : ℕ) → freshCall buffer n1 .answer .refusal ≡ 0 → length (freshCall buffer n1 .table) ≡ 16 * records buffer
 unfolding freshCall
 made-length buffer n1 = by (first (freshChecks buffer n1)) where
-  by : (v : Verdict Refusal) → maker.made v buffer n1 .answer ≡ 0 → length (maker.made v buffer n1 .table) ≡ 16 * records buffer
+  by : (v : Verdict Refusal) → maker.made v buffer n1 .answer .refusal ≡ 0 → length (maker.made v buffer n1 .table) ≡ 16 * records buffer
   by (refused x) h = absurd (omega (arith, number-above x))
   by passed h = length-copies (records buffer) (octetsOf (freshLink n1)) (octets-length (freshLink n1))
 
@@ -141,17 +143,17 @@ module _ (I : ℕ → Link → List Mark → Type 0) (v : Invariant I) (w : Worl
       rw (ap (λ (z : Outcome). z .table) (refusals-untouched (w .table) e o r)) (g k (omega (arith, same-records)))
 
 module _ (I : ℕ → Link → List Mark → Type 0) (v : Invariant I) where
-  made-ok : (buffer : List ℕ) (n1 : ℕ) → freshCall buffer n1 .answer ≡ 0 → Good I (made buffer n1)
+  made-ok : (buffer : List ℕ) (n1 : ℕ) → freshCall buffer n1 .answer .refusal ≡ 0 → Good I (made buffer n1)
   unfolding marks
   made-ok buffer n1 h k i = record { link = freshLink n1; octets = all-fresh buffer n1 k h (omega (arith, made-length buffer n1 h)); inv = v .begins n1 }
 
-  fresh-good : (w : World) → Good I w → (buffer : List ℕ) (n1 : ℕ) (b : Bool) → eqb (freshCall buffer n1 .answer) 0 ≡ b → Good I (cond b (made buffer n1) w)
-  fresh-good w g buffer n1 true a = made-ok buffer n1 (eqb-true (freshCall buffer n1 .answer) 0 a)
+  fresh-good : (w : World) → Good I w → (buffer : List ℕ) (n1 : ℕ) (b : Bool) → eqb (freshCall buffer n1 .answer .refusal) 0 ≡ b → Good I (cond b (made buffer n1) w)
+  fresh-good w g buffer n1 true a = made-ok buffer n1 (eqb-true (freshCall buffer n1 .answer .refusal) 0 a)
   fresh-good w g buffer n1 false a = g
 
   next-good : (w : World) → Good I w → (c : Call) → Good I (next w c)
   unfolding next
-  next-good w g (fresh buffer n1) = fresh-good w g buffer n1 (eqb (freshCall buffer n1 .answer) 0) refl
+  next-good w g (fresh buffer n1) = fresh-good w g buffer n1 (eqb (freshCall buffer n1 .answer .refusal) 0) refl
   next-good w g (step e o) = step-good I v w g e o (eqb (stepCall (w .table) e o .answer .refusal) 0) refl
   next-good w g (burst es o l) = burst-keeps (Good I) (λ w e o g. step-good I v w g e o (eqb (stepCall (w .table) e o .answer .refusal) 0) refl) w es o l g
 

@@ -1,12 +1,12 @@
 -- What the octets of an accepted event say of the row that it meets: the mark is of the row's sort. Assumes nothing.
 use mathlib.Core.Path.{_≡_, refl, sym, subst, _∙_}
-use mathlib.Core.Bool.{Bool, true, false, cond, false≢true, true≢false, or-true}
+use mathlib.Core.Bool.{Bool, true, false, cond, false≢true, true≢false}
 use mathlib.Core.List.{List, [], _∷_}
 use Prim.Native.Nat.{ℕ, _≤_}
 use native.Mathlib.Omega.{arith}
 use lib.Dec.{eqb, leb}
 use lib.ListN.{length}
-use borrow.Author.Tests.{eqb-true, eqb-false, leb-false}
+use borrow.Author.Tests.{eqb-true, eqb-false, leb-true, not-false}
 use Rattle.unit.specs.declared.Arrived.{Arrived}
 use Rattle.unit.specs.Unit.{arrived}
 use Rattle.table6.specs.EventCodes.{MESSAGE-FOR-TRANSMISSION, DATA-indication, T3-expired}
@@ -14,9 +14,11 @@ use Rattle.link.specs.declared.Num.{Num}
 use Rattle.link.specs.declared.Event.{Event}
 use Rattle.link.specs.Stored.{dataRowOf, viewOf}
 use Rattle.event.specs.Frame.{EV, codeAt, paramAt, numberAt, lengthAt, messageOf}
-use Rattle.event.specs.EventRecord.{carried, events, Coded, among, codedAt, codedIn, said, eventOf, misfit, Each}
+use Rattle.event.specs.EventRecord.{carried, events, Coded, among, codedAt, codedIn, said, unknown, eventOf, fieldsIn, Each}
+use Rattle.unit.specs.Checks.{passed, first}
+use Rattle.unit.proofs.Checks.{clear}
+use Rattle.event.specs.Fields.{fields, outOfRange, fieldChecks}
 use Rattle.event.proofs.Frame.{message-length}
-use Rattle.step.specs.Step.{unknown}
 use Rattle.history.proofs.Walk.{Kind, Of}
 use Rattle.history.proofs.Table.{Sort, plain, sortAt}
 use Rattle.history.proofs.Calls.{Passed}
@@ -119,18 +121,15 @@ long-message (a ∷ b ∷ c ∷ []) h = absurd (omega arith)
 long-message (a ∷ b ∷ c ∷ d ∷ []) h = absurd (omega arith)
 long-message (a ∷ b ∷ c ∷ d ∷ e ∷ m) h = refl
 
-user-message : (p : ℕ) (n : Num) (len : ℕ) → misfit MESSAGE-FOR-TRANSMISSION p n len ≡ false → 5 ≤ len
-unfolding misfit
-user-message p n len e = by (leb len 4) refl where
-  by : (b : Bool) → leb len 4 ≡ b → 5 ≤ len
-  by true q = let z : misfit MESSAGE-FOR-TRANSMISSION p n len ≡ true = simp (q, or-true) in absurd (true≢false (sym z ∙ e))
-  by false q = leb-false len 4 q
+user-message : (p : ℕ) (n : Num) (len : ℕ) → first (fieldChecks MESSAGE-FOR-TRANSMISSION (fields p n len)) ≡ passed → 5 ≤ len
+unfolding outOfRange
+user-message p n len h = leb-true 5 len (not-false (leb 5 len) (clear (fieldChecks MESSAGE-FOR-TRANSMISSION (fields p n len)) h .1 .1 .1 .1 .1 .0))
 
 -- an event that is taken is of the sort of the row that it meets
 module _ (e : List ℕ) (p : Passed e) (c1 : ℕ) where
   long-if-user : codeAt e ≡ MESSAGE-FOR-TRANSMISSION → arrived (messageOf e) ≡ Arrived.Long
   long-if-user i =
-      let fit = subst (λ (c : ℕ). misfit c (paramAt e) (numberAt e) (lengthAt e) ≡ false) i (p .fits) in
+      let fit = subst (λ (c : ℕ). first (fieldChecks c (fieldsIn e)) ≡ passed) i (p .fits) in
       long-message (messageOf e) (omega (arith, user-message (paramAt e) (numberAt e) (lengthAt e) fit, message-length EV e (p .sound)))
 
   by-coded : (x : Coded) → unknown x ≡ false → Fits (paramAt e) (numberAt e) (lengthAt e) (arrived (messageOf e)) c1 (codeAt e) x →

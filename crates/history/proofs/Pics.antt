@@ -6,7 +6,7 @@ use Prim.Native.Nat.{ℕ, zero, suc, _+_, _-_, _≤_, _<_}
 use native.Mathlib.Omega.{arith}
 use lib.Dec.{eqb}
 use lib.ListN.{length}
-use borrow.Author.Tests.{eqb-true, eqb-false, ne-eqb, le-ltb, lt-leb}
+use borrow.Author.Tests.{eqb-true, eqb-false, ne-eqb, le-ltb, le-leb, lt-leb}
 use Rattle.unit.specs.declared.Status.{Status}
 use Rattle.unit.specs.declared.Field.{Field}
 use Rattle.unit.specs.declared.Arrived.{Arrived}
@@ -39,7 +39,8 @@ use Rattle.link.specs.Twelve.{unit, report}
 use Rattle.record.specs.LinkRecord.{wellFormed, linkOf}
 use Rattle.record.proofs.LinkRecord.{unpacked}
 use Rattle.event.specs.Frame.{EV, written, linkAt, codeAt, messageOf}
-use Rattle.event.specs.EventRecord.{Coded, codedAt, eventOf, misfit}
+use Rattle.event.specs.EventRecord.{Coded, codedAt, eventOf, fieldsIn}
+use Rattle.event.specs.Fields.{fields, notCarried, outOfRange, fieldChecks}
 use Rattle.event.proofs.Frame.{two-back, frame-reread}
 use Rattle.signal.specs.SignalRecord.{signalOctets}
 use Rattle.step.specs.declared.Refusal.{Refusal}
@@ -91,8 +92,9 @@ module _ (w : World) (k c : ℕ) (l : Link) (e : List ℕ) (x : Event) (a : At w
 
   passes : checks.first (call.checks (w .table) e (length o)) ≡ checks.passed
   passes =
+      let g = verdict.clear (fieldChecks (codeAt e) (fieldsIn e)) (f .passed .fits) in
       verdict.none (call.checks (w .table) e (length o))
-      (a .good, (ap not (f .passed .sound), (f .passed .known, (f .passed .fits, (lt-leb (records (w .table)) (linkAt e) (a .inside), (ap not (a .formed), (rw (a .holds, f .code) r, (ap isIllegal makes, (le-ltb (length o) 4192 wide, tt)))))))))
+      (a .good, (ap not (f .passed .sound), (f .passed .known, (g .0, (g .1 .0, (g .1 .1 .0, (g .1 .1 .1 .0, (g .1 .1 .1 .1 .0, (g .1 .1 .1 .1 .1 .0, (lt-leb (records (w .table)) (linkAt e) (a .inside), (ap not (a .formed), (rw (a .holds, f .code) r, (ap isIllegal makes, (le-ltb (length o) 4192 wide, tt))))))))))))))
 
   taken-so : stepCall (w .table) e o .answer .refusal ≡ 0
   taken-so = ap (λ (z : call.Outcome). z .answer .refusal) (step-accepted (w .table) e o passes makes)
@@ -135,14 +137,14 @@ ended w a = ap (λ (l : Link). l .state) (a .holds)
 abbrev Sound : World → Type 0
 Sound w = (badTable (w .table) ≡ false) × ((k : ℕ) → k < records (w .table) → wellFormed (recordAt (w .table) k) ≡ true)
 
-taken-buffer : (buffer : List ℕ) (n1 : ℕ) → freshCall buffer n1 .answer ≡ 0 → badTable buffer ≡ false
+taken-buffer : (buffer : List ℕ) (n1 : ℕ) → freshCall buffer n1 .answer .refusal ≡ 0 → badTable buffer ≡ false
 unfolding freshCall
 taken-buffer buffer n1 = by (checks.first (freshChecks buffer n1)) refl where
-  by : (v : checks.Verdict Refusal) → checks.first (freshChecks buffer n1) ≡ v → maker.made v buffer n1 .answer ≡ 0 → badTable buffer ≡ false
+  by : (v : checks.Verdict Refusal) → checks.first (freshChecks buffer n1) ≡ v → maker.made v buffer n1 .answer .refusal ≡ 0 → badTable buffer ≡ false
   by (checks.refused x) p h = absurd (omega (arith, number-above x))
   by checks.passed p h = verdict.clear (freshChecks buffer n1) p .0
 
-made-sound : (buffer : List ℕ) (n1 : ℕ) → freshCall buffer n1 .answer ≡ 0 → Sound (made buffer n1)
+made-sound : (buffer : List ℕ) (n1 : ℕ) → freshCall buffer n1 .answer .refusal ≡ 0 → Sound (made buffer n1)
 made-sound buffer n1 h =
     let g = taken-buffer buffer n1 h in
     let n : length (freshCall buffer n1 .table) ≡ length buffer = omega (arith, made-length buffer n1 h, places.whole buffer g) in
@@ -155,9 +157,9 @@ step-sound w e o s =
 
 next-sound : (w : World) (c : Call) → Sound w → Sound (next w c)
 unfolding next
-next-sound w (fresh buffer n1) s = by (eqb (freshCall buffer n1 .answer) 0) refl where
-  by : (b : Bool) → eqb (freshCall buffer n1 .answer) 0 ≡ b → Sound (cond b (made buffer n1) w)
-  by true p = made-sound buffer n1 (eqb-true (freshCall buffer n1 .answer) 0 p)
+next-sound w (fresh buffer n1) s = by (eqb (freshCall buffer n1 .answer .refusal) 0) refl where
+  by : (b : Bool) → eqb (freshCall buffer n1 .answer .refusal) 0 ≡ b → Sound (cond b (made buffer n1) w)
+  by true p = made-sound buffer n1 (eqb-true (freshCall buffer n1 .answer .refusal) 0 p)
   by false p = s
 next-sound w (step e o) s = step-sound w e o s
 next-sound w (burst es o l) s = burst-keeps Sound step-sound w es o l s
@@ -206,7 +208,7 @@ running-T2 s r buffer n1 h calls k i p =
 
 -- EVENTS
 
-pub hands : (k c p : ℕ) (n : Num) (m : List ℕ) {x : Event} → length m ≤ 4096 → codedAt c p n (length m) (arrived m) ≡ Coded.Of x → misfit c p n (length m) ≡ false →
+pub hands : (k c p : ℕ) (n : Num) (m : List ℕ) {x : Event} → length m ≤ 4096 → codedAt c p n (length m) (arrived m) ≡ Coded.Of x → checks.first (fieldChecks c (fields p n (length m))) ≡ checks.passed →
     Hands (written EV k c p n m) k c x
 unfolding written
 hands k c p n m h u v =
@@ -218,39 +220,39 @@ hands k c p n m h u v =
     }
 
 hands-start : (k : ℕ) → Hands (plain START k) k START event.Start
-unfolding codedAt misfit
+unfolding codedAt notCarried outOfRange
 hands-start k = hands k START 0 none [] (omega arith) refl refl
 
 hands-stop : (k : ℕ) → Hands (plain STOP k) k STOP event.Stop
-unfolding codedAt misfit
+unfolding codedAt notCarried outOfRange
 hands-stop k = hands k STOP 0 none [] (omega arith) refl refl
 
 hands-t1 : (k : ℕ) → Hands (plain T1-expired k) k T1-expired event.T1
-unfolding codedAt misfit
+unfolding codedAt notCarried outOfRange
 hands-t1 k = hands k T1-expired 0 none [] (omega arith) refl refl
 
 hands-t2 : (k : ℕ) → Hands (plain T2-expired k) k T2-expired event.T2
-unfolding codedAt misfit
+unfolding codedAt notCarried outOfRange
 hands-t2 k = hands k T2-expired 0 none [] (omega arith) refl refl
 
 hands-t3 : (k : ℕ) → Hands (plain T3-expired k) k T3-expired event.T3
-unfolding codedAt misfit
+unfolding codedAt notCarried outOfRange
 hands-t3 k = hands k T3-expired 0 none [] (omega arith) refl refl
 
 hands-indication : (peer : Ups) (k : ℕ) → Hands (from-peer ESTABLISH-indication peer k) k ESTABLISH-indication (event.EstablishIndication (asking peer))
-unfolding codedAt misfit decoded
+unfolding codedAt notCarried outOfRange decoded
 hands-indication Ups.Normal k = hands k ESTABLISH-indication (asking Ups.Normal) none [] (omega arith) refl refl
 hands-indication Ups.Emergency k = hands k ESTABLISH-indication (asking Ups.Emergency) none [] (omega arith) refl refl
 
 hands-confirm : (peer : Ups) (k : ℕ) → Hands (from-peer ESTABLISH-confirm peer k) k ESTABLISH-confirm (event.EstablishConfirm (asking peer))
-unfolding codedAt misfit decoded
+unfolding codedAt notCarried outOfRange decoded
 hands-confirm Ups.Normal k = hands k ESTABLISH-confirm (asking Ups.Normal) none [] (omega arith) refl refl
 hands-confirm Ups.Emergency k = hands k ESTABLISH-confirm (asking Ups.Emergency) none [] (omega arith) refl refl
 
 hands-release : (s : Source) (f : Field) (k : ℕ) → Hands (released s f k) k RELEASE-indication (event.ReleaseIndication (coded f) (sourced s))
-unfolding codedAt misfit decoded
+unfolding codedAt notCarried outOfRange decoded
 hands-release s f k = hands k RELEASE-indication (coded f) (num 0 0 (sourced s)) [] (omega arith) refl (fitting s f) where
-  fitting : (s : Source) (f : Field) → misfit RELEASE-indication (coded f) (num 0 0 (sourced s)) 0 ≡ false
+  fitting : (s : Source) (f : Field) → checks.first (fieldChecks RELEASE-indication (fields (coded f) (num 0 0 (sourced s)) 0)) ≡ checks.passed
   fitting Source.User (Field.Named Status.OOS) = refl
   fitting Source.User (Field.Named Status.PO) = refl
   fitting Source.User (Field.Named Status.INS) = refl
@@ -273,20 +275,20 @@ hands-release s f k = hands k RELEASE-indication (coded f) (num 0 0 (sourced s))
   fitting Source.SSCOP Field.Unnamed = refl
 
 hands-release-confirm : (k : ℕ) → Hands (plain RELEASE-confirm k) k RELEASE-confirm event.ReleaseConfirm
-unfolding codedAt misfit
+unfolding codedAt notCarried outOfRange
 hands-release-confirm k = hands k RELEASE-confirm 0 none [] (omega arith) refl refl
 
 hands-ins : (n : Num) (k : ℕ) → Hands (arriving (unitOf Status.INS) n k) k DATA-indication (event.Data Arrived.INS n)
-unfolding codedAt misfit unitOf kind arrived
+unfolding codedAt notCarried outOfRange unitOf kind arrived
 hands-ins n k = hands k DATA-indication 0 n (unitOf Status.INS) (omega arith) refl refl
 
 hands-data : (m : List ℕ) (n : Num) (k : ℕ) → 5 ≤ length m → length m ≤ 4096 → Hands (arriving m n k) k DATA-indication (event.Data Arrived.Long n)
-unfolding codedAt misfit
+unfolding codedAt notCarried outOfRange
 hands-data m n k h i = hands k DATA-indication 0 n m i (rw (long-message m h)) refl
 
 hands-message : (m : List ℕ) (k : ℕ) → 5 ≤ length m → length m ≤ 4096 → Hands (message m k) k MESSAGE-FOR-TRANSMISSION event.Message
-unfolding codedAt misfit
-hands-message m k h i = hands k MESSAGE-FOR-TRANSMISSION 0 none m i refl (rw (lt-leb (length m) 4 h))
+unfolding codedAt notCarried outOfRange
+hands-message m k h i = hands k MESSAGE-FOR-TRANSMISSION 0 none m i refl (rw (le-leb 5 (length m) h))
 
 -- WHAT TABLE 6 GIVES, whatever else the record holds
 

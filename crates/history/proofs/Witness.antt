@@ -7,7 +7,8 @@ use Rattle.link.specs.Step.{stepOf}
 use Rattle.octet.specs.Octets.{over, putAt}
 use Rattle.record.specs.LinkRecord.{octetsOf, linkOf, wellFormed}
 use Rattle.event.specs.Frame.{written, framedAs}
-use Rattle.event.specs.EventRecord.{codedAt, misfit}
+use Rattle.event.specs.EventRecord.{codedAt}
+use Rattle.event.specs.Fields.{notCarried, outOfRange}
 use Rattle.event.specs.EndToEnd.{frames}
 use Rattle.signal.specs.SignalRecord.{joined}
 use Rattle.step.specs.Step.{stepCall}
@@ -21,7 +22,7 @@ use Rattle.history.specs.BsntWitness.{BsntWitness}
 
 pub witness : Witness
 unfolding unitOf kind arrived decoded asked table7 table8 every-row stepOf over putAt octetsOf linkOf wellFormed written framedAs
-    codedAt misfit joined frames stepCall singles freshCall next run marks stands alive sent due toldIns heardIns
+    codedAt notCarried outOfRange joined frames stepCall singles freshCall next run marks stands alive sent due toldIns heardIns
 witness =
     record {
       begins = refl;
@@ -47,7 +48,7 @@ witness =
 
 pub bsnt-witness : BsntWitness
 unfolding unitOf kind arrived decoded asked table7 table8 every-row stepOf over putAt octetsOf linkOf wellFormed written framedAs
-    codedAt misfit joined stepCall freshCall next run marks bsnt
+    codedAt notCarried outOfRange joined stepCall freshCall next run marks bsnt
 bsnt-witness =
     record {
       never = record { accepted = refl; answers = refl; told = refl };

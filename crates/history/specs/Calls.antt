@@ -57,7 +57,7 @@ each w (s ∷ others) = each (stepped w (s .event) (s .after)) others
 
 -- One call. A table that was made takes the place of the one that there is; where none was made, that one is as it was.
 unfoldable pub next : World → Call → World
-next w (fresh buffer n1) = cond (eqb (freshCall buffer n1 .answer) 0) (made buffer n1) w
+next w (fresh buffer n1) = cond (eqb (freshCall buffer n1 .answer .refusal) 0) (made buffer n1) w
 next w (step e o) = stepped w e (stepCall (w .table) e o)
 next w (burst es o l) = each w (singles (w .table) es o l)
 
@@ -69,5 +69,5 @@ run w (c ∷ calls) = run (next w c) calls
 -- every beginning of one.
 abbrev pub AfterEachCall : (World → ℕ → Type 0) → Type 0
 AfterEachCall P =
-    (buffer : List ℕ) (n1 : ℕ) → freshCall buffer n1 .answer ≡ 0 →
+    (buffer : List ℕ) (n1 : ℕ) → freshCall buffer n1 .answer .refusal ≡ 0 →
     (calls : List Call) (link : ℕ) → link < records (run (made buffer n1) calls .table) → P (run (made buffer n1) calls) link

@@ -100,7 +100,7 @@ abbrev pub proved : List Call
 proved = START ∷ ESTABLISH-confirm Status.NM ∷ T3 ∷ T3 ∷ DATA Status.INS ∷ T3 ∷ []
 
 pub record Witness : Type 0 where
-  pub begins : freshCall (replicate 32 0) 2 .answer ≡ 0
+  pub begins : freshCall (replicate 32 0) 2 .answer .refusal ≡ 0
   -- IN SERVICE, with proving and without: forced by management, or by the user's wish, where the peer calls
   pub with-proving : In proved
   pub without : In (FORCE-EMERGENCY ∷ START ∷ ESTABLISH-confirm Status.NM ∷ T3 ∷ DATA Status.INS ∷ [])

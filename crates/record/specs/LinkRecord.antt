@@ -59,6 +59,10 @@ mpsAt c = getD (Mps.Neutral ∷ Mps.Normal ∷ []) c Mps.Emergency
 abbrev pub upsAt : ℕ → Ups
 upsAt c = getD (Ups.Normal ∷ []) c Ups.Emergency
 
+-- where n1 stands
+abbrev pub n1Place : ℕ
+n1Place = 14
+
 -- What sixteen octets hold.
 unfoldable pub linkOf : List ℕ → Link
 linkOf r =
@@ -73,7 +77,7 @@ linkOf r =
       t3 = eqb (at r 6 / 4 % 2) 1;
       bsnt = record { known = eqb (at r 7) 1; num = record { a = at r 8; b = at r 9; c = at r 10 } };
       c1 = two (at r 12) (at r 13);
-      n1 = two (at r 14) (at r 15);
+      n1 = two (at r n1Place) (at r (n1Place + 1));
     }
 
 -- "Anything else is ill-formed."

@@ -10,19 +10,22 @@ use lib.ListN.{length, take, drop, getD, length-append, length-drop, take-append
 use lib.Seq.{take-length, drop-length, take-append-le, drop-append-le, drop-append-add, drop-drop}
 use borrow.Author.Tests.{le-ltb, eqb-true, eqb-false}
 use Rattle.unit.specs.Checks.{Verdict, passed, refused, first}
+use Rattle.unit.proofs.Checks.{onward, first-by}
 use Rattle.octet.specs.Octets.{at, two, over}
 use Rattle.octet.proofs.Over.{length-over, over-front, over-rest}
 use Rattle.link.specs.Step as machine
 use Rattle.record.specs.LinkRecord.{wellFormed}
-use Rattle.event.specs.Frame.{EV, linkAt, codeAt, paramAt, numberAt, lengthAt, messageOf}
-use Rattle.event.specs.EventRecord.{framed, codedIn, eventOf, misfit}
+use Rattle.event.specs.Frame.{EV, linkAt, codeAt, lengthAt, messageOf}
+use Rattle.event.specs.EventRecord.{framed, codedIn, unknown, eventOf, fieldsIn}
+use Rattle.event.specs.declared.Fault.{Fault}
+use Rattle.event.specs.Fields.{fieldChecks}
 use Rattle.event.specs.EndToEnd as events
 use Rattle.event.specs.EndToEnd.{front, sound, frames}
 use Rattle.event.proofs.Frame as frame
 use Rattle.event.proofs.EndToEnd.{well-formed, sound-is-well-formed, broken}
 use Rattle.step.specs.declared.Refusal.{Refusal}
 use Rattle.step.specs.Checks.{number}
-use Rattle.step.specs.Step.{badTable, records, recordAt, unknown, idle, isIllegal, linkFor, checks, Outcome, performed, outcome, stepCall}
+use Rattle.step.specs.Step.{badTable, records, recordAt, idle, isIllegal, linkFor, checks, Outcome, performed, outcome, stepCall}
 use Rattle.sscf.specs.Burst.{written, left, Single, singly, eventsOf, numbersOf, writtenBy, signalsBy, tableAfter, BurstOutcome, bursting, burstAnswered, burstChecks, brokenAt, came, burstCall}
 use Rattle.sscf.specs.BurstLaws.{BurstRefusalsUntouched, BurstUntouched, BurstRestUntouched, NamedByNone, BurstOthersUntouched, OneEvent, Stops, StopsOnly, NoEvents, AlwaysRoom, AlwaysPlace, endToEnd, Events, then, together, SplitInTwo, BrokenStands, BrokenRefused, AskedBefore}
 use Rattle.step.proofs.Untouched.{number-above, same-lengths, rest-untouched, others-untouched, at-most-4192, at-most-twelvefold}
@@ -421,34 +424,42 @@ broken-refused t es o l p h b =
         → sound (drop (burstCall t es o l .answer .at) es) ≡ false
     told = ⊎-elim (λ x. absurd (omega (arith, b, x .1))) (⊎-elim (λ y. y .1) (λ z. absurd (omega (arith, b, z .2))))
 
--- ASKED BEFORE: of a good table, a sound frame and room, a single call answers 0 or 3 to 8.
+-- ASKED BEFORE: of a good table, a sound frame and room, a single call answers none of 1, 2 and 9.
+abbrev Given : ℕ → Type 0
+Given n = (n ≡ 3) ⊎ (((5 ≤ n) × (n ≤ 8)) ⊎ ((10 ≤ n) × (n ≤ 12)))
+
 abbrev Late : ℕ → Type 0
-Late n = (n ≡ 0) ⊎ ((3 ≤ n) × (n ≤ 8))
+Late n = (n ≡ 0) ⊎ Given n
 
 abbrev Mid : Verdict Refusal → Type 0
 Mid passed = Unit {0}
-Mid (refused r) = (3 ≤ number r) × (number r ≤ 8)
+Mid (refused r) = Given (number r)
 
-between : (c d e f g h : Bool) → Mid (cond c (refused Refusal.Code) (cond d (refused Refusal.Field) (cond e (refused Refusal.Link) (cond f (refused Refusal.Record) (cond g (refused Refusal.Timer) (cond h (refused Refusal.Cell) passed))))))
-between true d e f g h = (omega arith, omega arith)
-between false true e f g h = (omega arith, omega arith)
-between false false true f g h = (omega arith, omega arith)
-between false false false true g h = (omega arith, omega arith)
-between false false false false true h = (omega arith, omega arith)
-between false false false false false true = (omega arith, omega arith)
-between false false false false false false = tt
+between : (c : Bool) (w : Verdict Fault) (e f g h : Bool) →
+    Mid (cond c (refused Refusal.Code) (onward Refusal.Field w (cond e (refused Refusal.Link) (cond f (refused Refusal.Record) (cond g (refused Refusal.Timer) (cond h (refused Refusal.Cell) passed))))))
+between true w e f g h = inl refl
+between false (refused (Fault.NotCarried q)) e f g h = inr (inr (omega arith, omega arith))
+between false (refused (Fault.OutOfRange q)) e f g h = inr (inr (omega arith, omega arith))
+between false (refused (Fault.Short q)) e f g h = inr (inr (omega arith, omega arith))
+between false passed true f g h = inr (inl (omega arith, omega arith))
+between false passed false true g h = inr (inl (omega arith, omega arith))
+between false passed false false true h = inr (inl (omega arith, omega arith))
+between false passed false false false true = inr (inl (omega arith, omega arith))
+between false passed false false false false = tt
 
 mid : (t e : List ℕ) (room : ℕ) → badTable t ≡ false → framed e ≡ true → 4192 ≤ room → Mid (first (checks t e room))
 mid t e room a b c =
-    rw (a, b, le-ltb room 4192 c)
-    (between (unknown (codedIn e)) (misfit (codeAt e) (paramAt e) (numberAt e) (lengthAt e)) (leb (records t) (linkAt e)) (not (wellFormed (recordAt t (linkAt e)))) (idle (linkFor t e) (codeAt e))
-    (isIllegal (machine.stepOf (linkFor t e) (eventOf e))))
+    rw (a, b)
+    (subst (λ (v : Verdict Refusal). Mid (cond (unknown (codedIn e)) (refused Refusal.Code) v)) (sym (first-by Refusal.Field (fieldChecks (codeAt e) (fieldsIn e)) (drop 9 (checks t e room))))
+    (rw (le-ltb room 4192 c)
+    (between (unknown (codedIn e)) (first (fieldChecks (codeAt e) (fieldsIn e))) (leb (records t) (linkAt e)) (not (wellFormed (recordAt t (linkAt e)))) (idle (linkFor t e) (codeAt e))
+    (isIllegal (machine.stepOf (linkFor t e) (eventOf e))))))
 
 late-call : (t e o : List ℕ) → badTable t ≡ false → framed e ≡ true → 4192 ≤ length o → Late (stepCall t e o .answer .refusal)
 unfolding stepCall
 late-call t e o a b c = by-verdict (first (checks t e (length o))) (mid t e (length o) a b c) where
   by-cell : (w : machine.Outcome) → let z = performed w t (linkAt e) (messageOf e) o in Late (z .answer .refusal)
-  by-cell machine.Illegal = inr (omega arith, omega arith)
+  by-cell machine.Illegal = inr (inr (inl (omega arith, omega arith)))
   by-cell (machine.Legal next signals) = inl refl
 
   by-verdict : (v : Verdict Refusal) → Mid v → let z = outcome v t e o in Late (z .answer .refusal)

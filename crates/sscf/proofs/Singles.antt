@@ -255,7 +255,7 @@ past-over s d n h =
     ∙ drop-drop j (length s) d
     ∙ ap (λ (k : ℕ). drop k d) (sym e)
 
--- the same by other names for the three numbers of the answer
+-- the same by other names for three numbers of the answer
 pub retold : {t₀ es o₀ l₀ t o : List ℕ} (l : List ℕ) (n m at put count : ℕ) {a b c x y z : ℕ} → x ≡ a → y ≡ b → z ≡ c →
     Reached t₀ es o₀ l₀ t o (set l n a) m at (put + b) (count + c) → Reached t₀ es o₀ l₀ t o (set l n x) m at (put + y) (count + z)
 retold l n m at put count p q r h = rw (p, q, r) h

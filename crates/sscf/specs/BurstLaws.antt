@@ -107,6 +107,8 @@ BrokenRefused =
     (t es o l p : List ℕ) → let c = burstCall t es o l in
     c .answer .refusal ≡ 0 → c .answer .broken ≡ 2 → stepCall (c .table) (drop (c .answer .at) es) p .answer .refusal ≡ 2
 
--- EVERY NUMBER THAT THE LIST TAKES is 0 or 3 to 8: table, frame and room are asked before.
+-- EVERY NUMBER THAT THE LIST TAKES is 0, 3, 5 to 8 or 10 to 12: table, frame and room are asked before.
 abbrev pub AskedBefore : Type 0
-AskedBefore = (t es o l : List ℕ) (i : ℕ) → let c = burstCall t es o l in let n = getD (c .list) i 0 in i < c .answer .taken → (n ≡ 0) ⊎ ((3 ≤ n) × (n ≤ 8))
+AskedBefore =
+    (t es o l : List ℕ) (i : ℕ) → let c = burstCall t es o l in let n = getD (c .list) i 0 in
+    i < c .answer .taken → (n ≡ 0) ⊎ ((n ≡ 3) ⊎ (((5 ≤ n) × (n ≤ 8)) ⊎ ((10 ≤ n) × (n ≤ 12))))

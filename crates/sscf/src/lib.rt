@@ -1,6 +1,7 @@
 // The calls for C hosts: a fresh table, one event for one link of a table, a burst of events, and which version this is.
 mod burst;
 
+use event::Fault;
 use octet::put_at;
 use record::RECORD;
 use step::Answer;
@@ -10,22 +11,20 @@ ghost use mathlib.Core.Path.{_≡_};
 ghost use Prim.Native.Nat.{_%_};
 ghost use lib.ListN.{length};
 ghost use Rattle.record.specs.LinkRecord.{recordOctets};
-ghost use Rattle.step.specs.Checks.{number};
+ghost use Rattle.step.specs.Checks.{number, place};
 ghost use Rattle.step.specs.Step.{records, answered, answering, stepCall};
 ghost use Rattle.sscf.specs.Burst.{burstAnswered, bursting, burstCall};
-ghost use Rattle.sscf.specs.Fresh.{copies, making, freshCall};
+ghost use Rattle.sscf.specs.Fresh.{copies, freshAnswered, making, freshCall};
 ghost use Rattle.sscf.specs.Version.{version};
 
-// In place of a refusal's number.
-const ACCEPTED: u32 = 0;
-
 fn refused(r: Refusal) -> Answer
-    ensures { λ a. ⌜ a ≡ answered (number r) 0 0 ⌝ }
+    ensures { λ a. ⌜ a ≡ answered (number r) 0 0 (place r) ⌝ }
 {
     Answer {
         refusal: r.number(),
         octets: 0,
         signals: 0,
+        place: r.place(),
     }
 }
 
@@ -42,6 +41,7 @@ pub extern "C" fn sscf_step(table: &mut [u8], event: &[u8], out: &mut [u8]) -> A
         refusal: step::refusal_in(told),
         octets: step::octets_in(told),
         signals: step::signals_in(told),
+        place: step::place_in(told),
     }
 }
 
@@ -101,26 +101,48 @@ fn fill(table: &mut [u8], r: &[u8])
     }
 }
 
+// What the fresh-table maker answers: 0 or the refusal, and its place.
+#[repr(C)]
+pub struct FreshAnswer {
+    pub refusal: u32,
+    pub place: u32,
+}
+
+fn fresh_refused(r: Refusal) -> FreshAnswer
+    ensures { λ a. ⌜ a ≡ freshAnswered (number r) (place r) ⌝ }
+{
+    FreshAnswer {
+        refusal: r.number(),
+        place: r.place(),
+    }
+}
+
+// Where n1 stands in a record.
+const N1: u8 = 14;
+
 // A table of fresh links, with n1 proving units each.
 #[no_mangle]
-pub extern "C" fn sscf_fresh(table: &mut [u8], n1: u16) -> u32
+pub extern "C" fn sscf_fresh(table: &mut [u8], n1: u16) -> FreshAnswer
     ensures { λ a. ⌜ making a (now (table .exit)) ≡ freshCall (now (table .entry)) n1 ⌝ }
 {
     if bad_table(&table[..]) {
-        return Refusal::Table.number();
+        return fresh_refused(Refusal::Table);
     }
     if n1 == 0 {
-        return Refusal::Field.number();
+        return fresh_refused(Refusal::Field(Fault::OutOfRange(N1)));
     }
     let packed = record::pack(link::fresh(n1));
     fill(table, &packed);
-    ACCEPTED
+    FreshAnswer {
+        refusal: 0,
+        place: 0,
+    }
 }
 
-// The version, 0.4.0.
+// The version, 0.5.0.
 #[no_mangle]
 pub extern "C" fn sscf_version() -> u32
     ensures { λ a. ⌜ a ≡ version ⌝ }
 {
-    4000
+    5000
 }

@@ -3,3 +3,4 @@ pub mod Places
 pub mod Taken
 pub mod Told
 pub mod Untouched
+pub mod Faults

@@ -33,8 +33,8 @@ taken t e room h =
     let c = clear (checks t e room) h in
     record {
       sound = not-false (framed e) (c .1 .0);
-      inside = leb-false (records t) (linkAt e) (c .1 .1 .1 .1 .0);
-      wide = ltb-false room 4192 (c .1 .1 .1 .1 .1 .1 .1 .1 .0);
+      inside = leb-false (records t) (linkAt e) (c .1 .1 .1 .1 .1 .1 .1 .1 .1 .0);
+      wide = ltb-false room 4192 (c .1 .1 .1 .1 .1 .1 .1 .1 .1 .1 .1 .1 .1 .0);
     }
 
 pub message-small : (e : List ℕ) → framed e ≡ true → length (messageOf e) ≤ 4096
@@ -59,6 +59,6 @@ step-refused t e o r h = rw h
 
 pub step-accepted : (t e o : List ℕ) {next : Link} {signals : List Signal} → first (checks t e (length o)) ≡ passed → Makes t e next signals →
     stepCall t e o
-    ≡ answering (answered 0 (length (joined (linkAt e) (messageOf e) signals)) (length signals)) (putAt t (16 * linkAt e) (octetsOf next)) (over (joined (linkAt e) (messageOf e) signals) o)
+    ≡ answering (answered 0 (length (joined (linkAt e) (messageOf e) signals)) (length signals) 0) (putAt t (16 * linkAt e) (octetsOf next)) (over (joined (linkAt e) (messageOf e) signals) o)
 unfolding stepCall
 step-accepted t e o p h = rw (p, h)

@@ -22,6 +22,7 @@ use Rattle.event.proofs.Frame.{sound, message-length}
 use Rattle.signal.proofs.SignalRecord.{joined-within}
 use Rattle.octet.proofs.Over.{length-over, over-front, over-rest, length-put, put-there, put-before, put-after}
 use Rattle.record.proofs.LinkRecord.{octets-length, packed-well, unpacked-good}
+use Rattle.event.specs.declared.Fault.{Fault}
 use Rattle.step.specs.declared.Refusal.{Refusal}
 use Rattle.step.specs.Checks.{number}
 use Rattle.step.specs.Step.{recordAt, linkFor, checks, Outcome, answered, answering, refusedBy, performed, outcome, stepCall}
@@ -32,7 +33,7 @@ use Rattle.step.proofs.Taken.{taken, Makes, made-after, room-for, step-
 -- what an accepted step comes to
 abbrev done : List ℕ → List ℕ → List ℕ → Link → List Signal → Outcome
 done t e o next signals =
-    answering (answered 0 (length (joined (linkAt e) (messageOf e) signals)) (length signals)) (putAt t (16 * linkAt e) (octetsOf next)) (over (joined (linkAt e) (messageOf e) signals) o)
+    answering (answered 0 (length (joined (linkAt e) (messageOf e) signals)) (length signals) 0) (putAt t (16 * linkAt e) (octetsOf next)) (over (joined (linkAt e) (messageOf e) signals) o)
 
 -- a step is refused, or it is accepted
 module _ (t e o : List ℕ) (P : Outcome → Type 0) (r : (x : Refusal) → P (refusedBy x t o))
@@ -54,7 +55,9 @@ pub number-above : (x : Refusal) → 1 ≤ number x
 number-above Refusal.Table = omega arith
 number-above Refusal.Frame = omega arith
 number-above Refusal.Code = omega arith
-number-above Refusal.Field = omega arith
+number-above (Refusal.Field (Fault.NotCarried q)) = omega arith
+number-above (Refusal.Field (Fault.OutOfRange q)) = omega arith
+number-above (Refusal.Field (Fault.Short q)) = omega arith
 number-above Refusal.Link = omega arith
 number-above Refusal.Record = omega arith
 number-above Refusal.Timer = omega arith
@@ -64,7 +67,7 @@ number-above Refusal.List = omega arith
 
 pub refusals-untouched : RefusalsUntouched
 refusals-untouched t e o =
-    either-way t e o (λ z. 1 ≤ z .answer .refusal → z ≡ answering (answered (z .answer .refusal) 0 0) t o) (λ x h. refl) (λ next signals p m h. absurd (omega arith))
+    either-way t e o (λ z. 1 ≤ z .answer .refusal → z ≡ answering (answered (z .answer .refusal) 0 0 (z .answer .place)) t o) (λ x h. refl) (λ next signals p m h. absurd (omega arith))
 
 pub rest-untouched : RestUntouched
 rest-untouched t e o =
@@ -138,7 +141,7 @@ other-room : (t e : List ℕ) (a b : ℕ) → 4192 ≤ b → first (checks t e a
 other-room t e a b w h =
     let c = clear (checks t e a) h in
     none (checks t e b)
-    (c .0, (c .1 .0, (c .1 .1 .0, (c .1 .1 .1 .0, (c .1 .1 .1 .1 .0, (c .1 .1 .1 .1 .1 .0, (c .1 .1 .1 .1 .1 .1 .0, (c .1 .1 .1 .1 .1 .1 .1 .0, (le-ltb b 4192 w, tt)))))))))
+    (c .0, (c .1 .0, (c .1 .1 .0, (c .1 .1 .1 .0, (c .1 .1 .1 .1 .0, (c .1 .1 .1 .1 .1 .0, (c .1 .1 .1 .1 .1 .1 .0, (c .1 .1 .1 .1 .1 .1 .1 .0, (c .1 .1 .1 .1 .1 .1 .1 .1 .0, (c .1 .1 .1 .1 .1 .1 .1 .1 .1 .0, (c .1 .1 .1 .1 .1 .1 .1 .1 .1 .1 .0, (c .1 .1 .1 .1 .1 .1 .1 .1 .1 .1 .1 .0, (c .1 .1 .1 .1 .1 .1 .1 .1 .1 .1 .1 .1 .0, (le-ltb b 4192 w, tt))))))))))))))
 
 pub taken-4192 : Taken4192
 taken-4192 t e o p h n =

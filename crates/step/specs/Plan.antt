@@ -17,6 +17,6 @@ abbrev pub Planned : List (Check Refusal) → List ℕ → List ℕ → Plan →
 Planned cs t e (Plan.Refused r) = first cs ≡ refused r
 Planned cs t e (Plan.Go link next said) = (first cs ≡ passed) × (link ≡ linkAt e) × (machine.stepOf (linkFor t e) (eventOf e) ≡ machine.Legal next (signalsOf said))
 
--- The number in which a step hands on its answer: the refusal in the lowest octet, the signals in the next, the octets from 2^32 on.
+-- The number in which a step hands on its answer: the refusal, the signals, the octets and the place, each in sixteen bits, the refusal in the lowest.
 abbrev pub toldBy : ℕ → Answer
-toldBy n = answered (n % 256) (n / 4294967296) (n / 256 % 256)
+toldBy n = answered (n % 65536) (n / 4294967296 % 65536) (n / 65536 % 65536) (n / 281474976710656)

@@ -1,21 +1,22 @@
--- The step, from table, event and output to answer, table and output, on all octets: document 01's checks in its order, then Table 6.
+-- The step, from table, event and output to answer, table and output, on all octets: the checks in their order, then Table 6.
 use Prim.Native.Nat.{ℕ, _+_, _*_, _/_, _%_}
 use mathlib.Core.Bool.{Bool, true, false, not, _&&_, _||_}
-use mathlib.Core.List.{List, [], _∷_}
+use mathlib.Core.List.{List, [], _∷_, _++_, map}
 use lib.Dec.{eqb, leb, ltb}
 use lib.ListN.{length, take, drop}
-use Rattle.unit.specs.Checks.{Check, _if_, Verdict, passed, refused, first}
+use Rattle.unit.specs.Checks.{Check, _if_, by, Verdict, passed, refused, first}
 use Rattle.table6.specs.EventCodes.{T1-expired, T2-expired, T3-expired}
 use Rattle.link.specs.declared.Link.{Link}
 use Rattle.link.specs.Step as machine
 use Rattle.octet.specs.Octets.{over, putAt}
 use Rattle.record.specs.LinkRecord.{recordOctets, wellFormed, linkOf, octetsOf}
-use Rattle.event.specs.Frame.{headOctets, messageOctets, linkAt, codeAt, paramAt, numberAt, lengthAt, messageOf}
-use Rattle.event.specs.EventRecord.{framed, Coded, codedIn, eventOf, misfit}
+use Rattle.event.specs.Frame.{headOctets, messageOctets, linkAt, codeAt, messageOf}
+use Rattle.event.specs.Fields.{fieldChecks}
+use Rattle.event.specs.EventRecord.{framed, codedIn, unknown, eventOf, fieldsIn}
 use Rattle.signal.specs.SignalRecord.{joined}
 use Rattle.step.specs.declared.Answer.{Answer}
 use Rattle.step.specs.declared.Refusal.{Refusal}
-use Rattle.step.specs.Checks.{number}
+use Rattle.step.specs.Checks.{number, place}
 
 -- THE TABLE
 
@@ -36,15 +37,11 @@ recordAt t k = take recordOctets (drop (recordOctets * k) t)
 
 -- THE EVENT
 
-abbrev pub unknown : Coded → Bool
-unknown Coded.Unknown = true
-unknown (Coded.Of x) = false
-
 -- "Expiry of a timer not marked running."
 abbrev pub idle : Link → ℕ → Bool
 idle l code = (eqb code T1-expired && not (l .t1)) || (eqb code T2-expired && not (l .t2)) || (eqb code T3-expired && not (l .t3))
 
--- THE CHECKS, in document 01's order
+-- THE CHECKS, in document 01's order, with 10 to 12 in the place of 4
 
 abbrev pub isIllegal : machine.Outcome → Bool
 isIllegal machine.Illegal = true
@@ -63,8 +60,8 @@ checks t e room =
     (Refusal.Table if badTable t)
     ∷ (Refusal.Frame if not (framed e))
     ∷ (Refusal.Code if unknown (codedIn e))
-    ∷ (Refusal.Field if misfit (codeAt e) (paramAt e) (numberAt e) (lengthAt e))
-    ∷ (Refusal.Link if leb (records t) (linkAt e))
+    ∷ map (by Refusal.Field) (fieldChecks (codeAt e) (fieldsIn e))
+    ++ (Refusal.Link if leb (records t) (linkAt e))
     ∷ (Refusal.Record if not (wellFormed (recordAt t (linkAt e))))
     ∷ (Refusal.Timer if idle (linkFor t e) (codeAt e))
     ∷ (Refusal.Cell if isIllegal (machine.stepOf (linkFor t e) (eventOf e)))
@@ -81,18 +78,18 @@ pub record Outcome : Type 0 where
 abbrev pub answering : Answer → List ℕ → List ℕ → Outcome
 answering a t o = record { answer = a; table = t; output = o }
 
-abbrev pub answered : ℕ → ℕ → ℕ → Answer
-answered refusal octets signals = record { refusal = refusal; octets = octets; signals = signals }
+abbrev pub answered : (refusal octets signals place : ℕ) → Answer
+answered refusal octets signals place = record { refusal = refusal; octets = octets; signals = signals; place = place }
 
 -- A refusal changes nothing.
 abbrev pub refusedBy : Refusal → List ℕ → List ℕ → Outcome
-refusedBy r t o = answering (answered (number r) 0 0) t o
+refusedBy r t o = answering (answered (number r) 0 0 (place r)) t o
 
 -- What Table 6 gives, for link k and an event with the message m: its record is written into the table, its signals over the front of the output.
 abbrev pub performed : machine.Outcome → List ℕ → ℕ → List ℕ → List ℕ → Outcome
 performed machine.Illegal t k m o = refusedBy Refusal.Cell t o
 performed (machine.Legal next signals) t k m o =
-    answering (answered 0 (length (joined k m signals)) (length signals)) (putAt t (recordOctets * k) (octetsOf next)) (over (joined k m signals) o)
+    answering (answered 0 (length (joined k m signals)) (length signals) 0) (putAt t (recordOctets * k) (octetsOf next)) (over (joined k m signals) o)
 
 abbrev pub outcome : Verdict Refusal → List ℕ → List ℕ → List ℕ → Outcome
 outcome (refused r) t e o = refusedBy r t o

@@ -15,7 +15,7 @@ use Rattle.step.specs.Step.{recordAt, linkFor, answered, answering, Outc
 
 -- A refusal answers no octets and no signals, and changes nothing.
 abbrev pub RefusalsUntouched : Type 0
-RefusalsUntouched = (t e o : List ℕ) → 1 ≤ stepCall t e o .answer .refusal → stepCall t e o ≡ answering (answered (stepCall t e o .answer .refusal) 0 0) t o
+RefusalsUntouched = (t e o : List ℕ) → 1 ≤ stepCall t e o .answer .refusal → stepCall t e o ≡ answering (answered (stepCall t e o .answer .refusal) 0 0 (stepCall t e o .answer .place)) t o
 
 -- Every octet of every record but the named one is as it was.
 abbrev pub OthersUntouched : Type 0

@@ -1,4 +1,4 @@
-// Document 01's checks, in its order: the first that holds refuses the call.
+// The checks, in their order: the first that holds refuses the call.
 
 use crate::ROOM;
 use crate::Refusal;
@@ -45,7 +45,7 @@ pub enum Plan {
 // Checks 5 to 9, of an event that fits. It is read where it is used, behind the record: so it is looked at once, and little is held meanwhile.
 fn link_plan(t: &[u8], e: &[u8], room: usize) -> Plan
     requires { ⌜ headOctets ≤ length (now e) ⌝ }
-    ensures { λ r. ⌜ Planned (drop 4 (checks (now (t .entry)) (now (e .entry)) room)) (now (t .entry)) (now (e .entry)) r ⌝ }
+    ensures { λ r. ⌜ Planned (drop 9 (checks (now (t .entry)) (now (e .entry)) room)) (now (t .entry)) (now (e .entry)) r ⌝ }
 {
     let k = event::link(e);
     if t.len() / RECORD <= k as usize {
@@ -77,14 +77,14 @@ fn link_plan(t: &[u8], e: &[u8], room: usize) -> Plan
     }
 }
 
-// Checks 2 to 9, of a table that has passed the first.
+// All checks but the first, of a table that has passed it.
 pub fn planned(t: &[u8], e: &[u8], room: usize) -> Plan
     ensures { λ r. ⌜ Planned (drop 1 (checks (now (t .entry)) (now (e .entry)) room)) (now (t .entry)) (now (e .entry)) r ⌝ }
 {
     match event::read_event(e) {
         Reading::BadFrame => Plan::Refused(Refusal::Frame),
         Reading::UnknownCode => Plan::Refused(Refusal::Code),
-        Reading::Misfit => Plan::Refused(Refusal::Field),
+        Reading::Misfit(fault) => Plan::Refused(Refusal::Field(fault)),
         Reading::Fits => link_plan(t, e, room),
     }
 }

@@ -3,12 +3,13 @@
 mod checks;
 
 use checks::Plan;
+use event::Fault;
 use octet::put_at;
 use record::RECORD;
 use signal::put_all;
 ghost use mathlib.Core.Path.{_≡_};
 ghost use mathlib.Core.Bool.{false};
-ghost use Rattle.step.specs.Checks.{number};
+ghost use Rattle.step.specs.Checks.{number, place};
 ghost use Rattle.step.specs.Step.{badTable, answering, stepCall};
 ghost use Rattle.step.specs.Plan.{toldBy};
 
@@ -16,7 +17,7 @@ pub enum Refusal {
     Table,
     Frame,
     Code,
-    Field,
+    Field(Fault),
     Link,
     Record,
     Timer,
@@ -33,13 +34,31 @@ impl Refusal {
             Refusal::Table => 1,
             Refusal::Frame => 2,
             Refusal::Code => 3,
-            Refusal::Field => 4,
+            Refusal::Field(fault) => fault.number(),
             Refusal::Link => 5,
             Refusal::Record => 6,
             Refusal::Timer => 7,
             Refusal::Cell => 8,
             Refusal::Room => 9,
             Refusal::List => 13,
+        }
+    }
+
+    // Where the first field at fault begins; 0 where no field is named.
+    pub fn place(self) -> u32
+        ensures { λ r. ⌜ r ≡ place self ⌝ }
+    {
+        match self {
+            Refusal::Table => 0,
+            Refusal::Frame => 0,
+            Refusal::Code => 0,
+            Refusal::Field(fault) => fault.place(),
+            Refusal::Link => 0,
+            Refusal::Record => 0,
+            Refusal::Timer => 0,
+            Refusal::Cell => 0,
+            Refusal::Room => 0,
+            Refusal::List => 0,
         }
     }
 }
@@ -60,20 +79,23 @@ pub fn bad_table(t: &[u8]) -> bool
     (last % RECORD != RECORD - 1) | (TABLE <= last)
 }
 
-// What the step answers: 0 or the refusal, the octets written and the signals counted.
+// What the step answers: 0 or the refusal, the octets written, the signals counted, and the refusal's place.
 #[repr(C)]
 pub struct Answer {
     pub refusal: u32,
     pub octets: u32,
     pub signals: u32,
+    pub place: u32,
 }
 
-// Where signals and octets stand in the number. A refusal is the number by itself.
-const SIGNALS: u64 = 256;
+// Where signals, octets and place stand in the number, sixteen bits each: so two of the four come out of it by one mask (D92).
+const SIGNALS: u64 = 65536;
 
 const OCTETS: u64 = 4294967296;
 
-// Checks 2 to 9, and what Table 6 gives.
+const PLACE: u64 = 281474976710656;
+
+// All checks but the first, and what Table 6 gives.
 pub fn step(table: &mut [u8], event: &[u8], out: &mut [u8]) -> u64
     requires { ⌜ badTable (now table) ≡ false ⌝ }
     ensures { λ n. ⌜ answering (toldBy n) (now (table .exit)) (now (out .exit)) ≡ stepCall (now (table .entry)) (now (event .entry)) (now (out .entry)) ⌝ }
@@ -81,7 +103,7 @@ pub fn step(table: &mut [u8], event: &[u8], out: &mut [u8]) -> u64
     // Its place and length once for all: else they are read anew behind each write.
     let e = &event[..];
     match checks::planned(&table[..], e, out.len()) {
-        Plan::Refused(r) => r.number() as u64,
+        Plan::Refused(r) => r.place() as u64 * PLACE + r.number() as u64,
         Plan::Go { link, next, said } => {
             // The record first: fewer values are held while the signals are written.
             let packed = record::pack(next);
@@ -103,11 +125,17 @@ pub fn refusal_in(n: u64) -> u32
 pub fn octets_in(n: u64) -> u32
     ensures { λ r. ⌜ r ≡ toldBy n .octets ⌝ }
 {
-    (n / OCTETS) as u32
+    (n / OCTETS % SIGNALS) as u32
 }
 
 pub fn signals_in(n: u64) -> u32
     ensures { λ r. ⌜ r ≡ toldBy n .signals ⌝ }
 {
-    (n / SIGNALS % 256) as u32
+    (n / SIGNALS % SIGNALS) as u32
+}
+
+pub fn place_in(n: u64) -> u32
+    ensures { λ r. ⌜ r ≡ toldBy n .place ⌝ }
+{
+    (n / PLACE) as u32
 }

@@ -9,14 +9,16 @@ lengthy-requires c κs = search needs
 numbered-requires : tie.Need-numbered-requires
 numbered-requires c κs = search needs
 
-shared-slice-read-fits : tie.Need-shared-slice-read-fits
-shared-slice-read-fits c = search needs
+shared-slice-read-glance : tie.Need-shared-slice-read-glance
+shared-slice-read-glance c = search needs
 
-fits-requires : tie.Need-fits-requires
-fits-requires c κs = search needs
+glance-requires : tie.Need-glance-requires
+glance-requires c κs = search needs
 
 returns : tie.Need-returns
-returns c = rw (c .fits2 .ensures, c .before .before .numbered .ensures, c .before .before .before .lengthy .ensures)
+returns c = rw (← c .before .before .before .lengthy .ensures, ← c .before .before .numbered .ensures) (c .glance .ensures)
 
 pub bare-spec : {M : Type 1} → statement M
-bare-spec = tie.close (tie.spec lengthy-requires numbered-requires shared-slice-read-fits fits-requires returns)
+bare-spec =
+    tie.close
+    (tie.spec lengthy-requires numbered-requires shared-slice-read-glance glance-requires returns)

@@ -1,7 +1,7 @@
 -- `event::is_status` meets its contract. Assumes nothing.
 use mathlib.Core.Path.{ap, sym, _∙_}
 use borrow.Author.Needs.{needs}
-use Rattle.event.specs.EventRecord.{isNamed}
+use Rattle.event.specs.Fields.{isNamed}
 use Rattle.event.proofs.is_status.Statement.{statement}
 use Rattle.event.proofs.is_status.Tie as tie
 

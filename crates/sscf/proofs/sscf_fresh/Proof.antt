@@ -11,20 +11,21 @@ use Rattle.link.specs.Fresh.{freshLink}
 use Rattle.record.specs.LinkRecord.{octetsOf}
 use Rattle.record.proofs.LinkRecord.{octets-length}
 use Rattle.step.specs.Step.{badTable}
-use Rattle.sscf.specs.Fresh.{copies, making, freshCall}
+use Rattle.sscf.specs.declared.FreshAnswer.{FreshAnswer}
+use Rattle.sscf.specs.Fresh.{copies, freshAnswered, making, freshCall}
 use Rattle.step.proofs.Places.{whole}
 use Rattle.sscf.proofs.sscf_fresh.Statement.{statement}
 use Rattle.sscf.proofs.sscf_fresh.Tie as tie
 
-refused-1 : (t : List ℕ) (n1 : ℕ) → badTable t ≡ true → making 1 t ≡ freshCall t n1
+refused-1 : (t : List ℕ) (n1 : ℕ) → badTable t ≡ true → making (freshAnswered 1 0) t ≡ freshCall t n1
 unfolding freshCall
 refused-1 t n1 b = rw b
 
-refused-4 : (t : List ℕ) (n1 : ℕ) → badTable t ≡ false → eqb n1 0 ≡ true → making 4 t ≡ freshCall t n1
+refused-11 : (t : List ℕ) (n1 : ℕ) → badTable t ≡ false → eqb n1 0 ≡ true → making (freshAnswered 11 14) t ≡ freshCall t n1
 unfolding freshCall
-refused-4 t n1 b z = rw (b, z)
+refused-11 t n1 b z = rw (b, z)
 
-accepted : (t : List ℕ) (n1 : ℕ) → badTable t ≡ false → eqb n1 0 ≡ false → making 0 (copies (length t / 16) (octetsOf (freshLink n1))) ≡ freshCall t n1
+accepted : (t : List ℕ) (n1 : ℕ) → badTable t ≡ false → eqb n1 0 ≡ false → making (freshAnswered 0 0) (copies (length t / 16) (octetsOf (freshLink n1))) ≡ freshCall t n1
 unfolding freshCall
 accepted t n1 b z = rw (b, z)
 
@@ -34,8 +35,8 @@ good c = sym (c .before .bad-table .ensures) ∙ c .if1 .left
 bad-table-requires : tie.Need-bad-table-requires
 bad-table-requires c κs = search needs
 
-number-requires : tie.Need-number-requires
-number-requires c κs = search needs
+fresh-refused-requires : tie.Need-fresh-refused-requires
+fresh-refused-requires c κs = search needs
 
 same-length : tie.Need-same-length
 same-length c = search needs
@@ -43,10 +44,10 @@ same-length c = search needs
 returns : tie.Need-returns
 returns c =
     let a = c .before .before .before .before .before .args in
-    ap (λ (n : ℕ). making n (a .table .now)) (c .number .ensures) ∙ refused-1 (a .table .now) (a .n1) (sym (c .before .before .bad-table .ensures) ∙ c .before .if1 .taken)
+    ap (λ (r : FreshAnswer). making r (a .table .now)) (c .fresh-refused .ensures) ∙ refused-1 (a .table .now) (a .n1) (sym (c .before .before .bad-table .ensures) ∙ c .before .if1 .taken)
 
-number-requires-2 : tie.Need-number-requires-2
-number-requires-2 c κs = search needs
+fresh-refused-requires-2 : tie.Need-fresh-refused-requires-2
+fresh-refused-requires-2 c κs = search needs
 
 same-length-2 : tie.Need-same-length-2
 same-length-2 c = search needs
@@ -54,7 +55,7 @@ same-length-2 c = search needs
 returns-2 : tie.Need-returns-2
 returns-2 c =
     let a = c .before .before .before .before .before .before .args in
-    ap (λ (n : ℕ). making n (a .table .now)) (c .number2 .ensures) ∙ refused-4 (a .table .now) (a .n1) (good (c .before .before)) (eq-eqb _ _ (c .before .if2 .taken))
+    ap (λ (r : FreshAnswer). making r (a .table .now)) (c .fresh-refused2 .ensures) ∙ refused-11 (a .table .now) (a .n1) (good (c .before .before)) (eq-eqb _ _ (c .before .if2 .taken))
 
 fresh-requires : tie.Need-fresh-requires
 fresh-requires c κs = search needs
@@ -75,7 +76,7 @@ returns-3 : tie.Need-returns-3
 returns-3 c =
     let a = c .before .before .before .before .before .before .before .before .before .before .before .before .args in
     let p = c .before .before .before .before .before .pack .ensures ∙ ap octetsOf (c .before .before .before .before .before .before .fresh .ensures) in
-    ap (making 0) (c .before .before .fill .ensures ∙ ap (copies (length (a .table .now) / 16)) p)
+    ap (making (freshAnswered 0 0)) (c .before .before .fill .ensures ∙ ap (copies (length (a .table .now) / 16)) p)
     ∙ accepted (a .table .now) (a .n1) (good (c .before .before .before .before .before .before .before .before)) (ne-eqb _ _ (c .before .before .before .before .before .before .before .if2 .left))
 
 pub sscf-fresh-spec : {M : Type 1} → statement M
@@ -83,10 +84,10 @@ sscf-fresh-spec =
     tie.close
     (tie.spec
     bad-table-requires
-    number-requires
+    fresh-refused-requires
     same-length
     returns
-    number-requires-2
+    fresh-refused-requires-2
     same-length-2
     returns-2
     fresh-requires

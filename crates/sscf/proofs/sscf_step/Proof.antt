@@ -34,6 +34,9 @@ octets-in-requires c κs = search needs
 signals-in-requires : tie.Need-signals-in-requires
 signals-in-requires c κs = search needs
 
+place-in-requires : tie.Need-place-in-requires
+place-in-requires c κs = search needs
+
 same-length-2 : tie.Need-same-length-2
 same-length-2 c = search needs
 
@@ -42,8 +45,8 @@ same-length-3 c = search needs
 
 returns-2 : tie.Need-returns-2
 returns-2 c =
-    let s = c .before .before .before .before .before .before .before .step in
-    (λ i. answering (answered (c .before .before .refusal-in .ensures i) (c .before .octets-in .ensures i) (c .signals-in .ensures i)) (s .last .0) (s .last .1 .1 .0)) ∙ s .ensures
+    let s = c .before .before .before .before .before .before .before .before .step in
+    (λ i. answering (answered (c .before .before .before .refusal-in .ensures i) (c .before .before .octets-in .ensures i) (c .before .signals-in .ensures i) (c .place-in .ensures i)) (s .last .0) (s .last .1 .1 .0)) ∙ s .ensures
 
 pub sscf-step-spec : {M : Type 1} → statement M
 sscf-step-spec =
@@ -57,6 +60,7 @@ sscf-step-spec =
     refusal-in-requires
     octets-in-requires
     signals-in-requires
+    place-in-requires
     same-length-2
     same-length-3
     returns-2)

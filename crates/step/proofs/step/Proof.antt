@@ -2,7 +2,7 @@
 use mathlib.Core.Path.{_≡_, sym, ap, _∙_}
 use mathlib.Core.Bool.{false}
 use mathlib.Core.List.{List}
-use Prim.Native.Nat.{ℕ, _*_, _≤_}
+use Prim.Native.Nat.{ℕ, _+_, _*_, _≤_}
 use native.Mathlib.Omega.{arith}
 use lib.ListN.{length, drop}
 use borrow.Author.Needs.{needs}
@@ -16,10 +16,11 @@ use Rattle.event.specs.Frame.{EV, linkAt, messageOf}
 use Rattle.signal.specs.SignalRecord.{joined}
 use Rattle.event.proofs.Frame.{sound, message-length}
 use Rattle.step.specs.declared.checks.Plan.{Plan}
+use Rattle.step.specs.Checks.{number, place}
 use Rattle.step.specs.Step.{badTable, checks, answered, answering}
 use Rattle.step.specs.Plan.{Planned, toldBy}
 use Rattle.step.proofs.Places.{inside}
-use Rattle.step.proofs.Told.{refusal-back, acceptance-back}
+use Rattle.step.proofs.Told.{number-below, place-given, refusal-back, acceptance-back}
 use Rattle.step.proofs.Taken.{Taken, taken, message-small, made-after, room-for, step-refused, step-accepted}
 use Rattle.step.proofs.step.Statement.{statement}
 use Rattle.step.proofs.step.Tie as tie
@@ -59,17 +60,41 @@ tk c = taken (T c) (E c) (length (O c)) (go c .0)
 fits : (c : tie.After-link) → length (joined (linkAt (E c)) (messageOf (E c)) (S c)) ≤ 4192
 fits c = room-for (T c) (E c) (tk c .sound) (go c .2)
 
+-- a refusal: what refuses, and that its place is small
+abbrev Z : tie.After-known-told → List ℕ × List ℕ × List ℕ
+Z c = (c .before .before .before .before .before .before .before .before .args .table .now, c .before .before .before .before .before .before .before .before .args .event .now, c .before .before .before .before .before .before .before .before .args .out .now)
+
+refusing : (c : tie.After-known-told) → first (checks (Z c .0) (Z c .1) (length (Z c .2))) ≡ refused (c .before .r .given .0 .0)
+refusing c =
+    let p : first (drop 1 (checks (Z c .0) (Z c .1) (length (Z c .2)))) ≡ refused (c .before .r .given .0 .0) = rw (c .before .r .given .1) at (c .before .before .before .planned .ensures) in
+    past-first (Z c .0) (Z c .1) (length (Z c .2)) (c .before .before .before .before .before .before .before .before .pre) ∙ p
+
+near : (c : tie.After-known-told) → place (c .before .r .given .0 .0) ≤ 10
+near c = place-given (Z c .0) (Z c .1) (length (Z c .2)) (refusing c)
+
 planned-requires : tie.Need-planned-requires
 planned-requires c κs = search needs
 
 enum-known-r : tie.Need-enum-known-r
 enum-known-r c = search needs
 
-number-requires : tie.Need-number-requires
-number-requires c κs = search needs
+place-requires : tie.Need-place-requires
+place-requires c κs = search needs
 
 cast-result : tie.Need-cast-result
 cast-result c = search needs
+
+mul-result : tie.Need-mul-result
+mul-result c = omega (arith, c .place .ensures, near (c .before))
+
+number-requires : tie.Need-number-requires
+number-requires c κs = search needs
+
+cast-result-2 : tie.Need-cast-result-2
+cast-result-2 c = search needs
+
+add-result : tie.Need-add-result
+add-result c = omega (arith, c .before .place .ensures, near (c .before .before), c .number .ensures, number-below (c .before .before .before .r .given .0 .0))
 
 enum-known-link : tie.Need-enum-known-link
 enum-known-link c = search needs
@@ -107,27 +132,25 @@ cast-signals c = search needs
 few : (c : tie.After-count) → c .before .before .before .put-all .result ≤ 4192
 few c = omega (arith, c .before .before .before .put-all .ensures .answer, fits (c .before .before .before .before .before .before .before .before .before .before .before .before))
 
-mul-result : tie.Need-mul-result
-mul-result c = omega (arith, few c)
-
 mul-result-2 : tie.Need-mul-result-2
-mul-result-2 c = search needs
+mul-result-2 c = omega (arith, few c)
 
-add-result : tie.Need-add-result
-add-result c = omega (arith, few c, c .count .ok)
+mul-result-3 : tie.Need-mul-result-3
+mul-result-3 c = search needs
+
+add-result-2 : tie.Need-add-result-2
+add-result-2 c = omega (arith, few c, c .count .ok)
 
 same-length : tie.Need-same-length
 same-length c = search needs
 
 returns : tie.Need-returns
 returns c =
-    let a = c .before .before .before .before .before .before .before .before .before .args in
-    let r = c .before .before .r .given in
-    let p : first (drop 1 (checks (a .table .now) (a .event .now) (length (a .out .now)))) ≡ refused (r .0 .0) = rw (r .1) at (c .before .before .before .before .planned .ensures) in
-    let q = past-first (a .table .now) (a .event .now) (length (a .out .now)) (c .before .before .before .before .before .before .before .before .before .pre) in
-    (λ i. answering (toldBy (c .number .ensures i)) (a .table .now) (a .out .now))
-    ∙ (λ i. answering (refusal-back (r .0 .0) i) (a .table .now) (a .out .now))
-    ∙ sym (step-refused (a .table .now) (a .event .now) (a .out .now) (r .0 .0) (q ∙ p))
+    let r = c .before .before .before .r .given .0 .0 in
+    let z = Z (c .before .before) in
+    (λ i. answering (toldBy (c .before .place .ensures i * 281474976710656 + c .number .ensures i)) (z .0) (z .2))
+    ∙ (λ i. answering (refusal-back (number r) (place r) (number-below r) i) (z .0) (z .2))
+    ∙ sym (step-refused (z .0) (z .1) (z .2) r (refusing (c .before .before)))
 
 same-length-2 : tie.Need-same-length-2
 same-length-2 c = search needs
@@ -141,8 +164,8 @@ returns-2 c =
     let p = c .before .before .before .put-all .ensures in
     let et : c .before .before .before .before .before .before .before .put-at .last .0 ≡ putAt (T l) (recordOctets * linkAt (E l)) (octetsOf (N l)) =
     c .before .before .before .before .before .before .before .put-at .ensures ∙ (λ i. putAt (T l) (recordOctets * go l .1 i) (c .before .before .before .before .before .before .before .before .before .before .pack .ensures i)) in
-    (λ i. answering (acceptance-back (c .before .before .before .put-all .result) (c .count .result) (c .count .ok) i) (et i) (p .written i))
-    ∙ (λ i. answering (answered 0 (p .answer i) (c .count .ensures i)) (putAt (T l) (recordOctets * linkAt (E l)) (octetsOf (N l))) (over (joined (linkAt (E l)) (messageOf (E l)) (S l)) (O l)))
+    (λ i. answering (acceptance-back (c .before .before .before .put-all .result) (c .count .result) (few c) (c .count .ok) i) (et i) (p .written i))
+    ∙ (λ i. answering (answered 0 (p .answer i) (c .count .ensures i) 0) (putAt (T l) (recordOctets * linkAt (E l)) (octetsOf (N l))) (over (joined (linkAt (E l)) (messageOf (E l)) (S l)) (O l)))
     ∙ sym (step-accepted (T l) (E l) (O l) (go l .0) (go l .2))
 
 pub step-spec : {M : Type 1} → statement M
@@ -151,8 +174,12 @@ step-spec =
     (tie.spec
     planned-requires
     enum-known-r
-    number-requires
+    place-requires
     cast-result
+    mul-result
+    number-requires
+    cast-result-2
+    add-result
     enum-known-link
     pack-requires
     cast-put-at
@@ -162,9 +189,9 @@ step-spec =
     put-all-requires
     count-requires
     cast-signals
-    mul-result
     mul-result-2
-    add-result
+    mul-result-3
+    add-result-2
     same-length
     returns
     same-length-2

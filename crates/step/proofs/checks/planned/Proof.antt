@@ -1,26 +1,30 @@
 -- `checks::planned` meets its contract. Assumes nothing.
 use mathlib.Core.Path.{_≡_, sym, ap, _∙_}
-use mathlib.Core.Bool.{Bool, true, false, not}
 use mathlib.Core.List.{List}
 use Prim.Native.Nat.{ℕ}
 use lib.ListN.{drop}
 use borrow.Author.Needs.{needs}
-use Rattle.unit.specs.Checks.{Check, first}
-use Rattle.event.specs.EventRecord.{Coded, reading}
+use Rattle.unit.specs.Checks.{Check, Verdict, first}
+use Rattle.unit.proofs.Checks.{onward, first-by}
+use Rattle.event.specs.declared.Fault.{Fault}
 use Rattle.event.specs.declared.Reading.{Reading}
-use Rattle.event.specs.Frame.{EV}
+use Rattle.event.specs.Frame.{EV, codeAt}
+use Rattle.event.specs.Fields.{fieldChecks}
+use Rattle.event.specs.EventRecord.{fieldsIn, reading}
 use Rattle.event.proofs.Frame.{sound}
-use Rattle.event.proofs.EventRecord.{coded, ToldOf, reading-tells}
+use Rattle.event.proofs.EventRecord.{ToldOf, reading-tells}
 use Rattle.step.specs.declared.checks.Plan.{Plan}
 use Rattle.step.specs.declared.Refusal.{Refusal}
-use Rattle.step.specs.Step.{unknown, checks}
+use Rattle.step.specs.Step.{checks}
 use Rattle.step.specs.Plan.{Planned}
 use Rattle.step.proofs.checks.planned.Statement.{statement}
 use Rattle.step.proofs.checks.planned.Tie as tie
 
-code-unknown : (x : Coded) (b : Bool) → coded x ≡ b → unknown x ≡ not b
-code-unknown Coded.Unknown b h = ap not h
-code-unknown (Coded.Of e) b h = ap not h
+-- the checks of the fields, and those behind them
+pub field-checks : (t e : List ℕ) (room : ℕ) {v : Verdict Fault} → first (fieldChecks (codeAt e) (fieldsIn e)) ≡ v →
+    first (drop 3 (checks t e room)) ≡ onward Refusal.Field v (first (drop 9 (checks t e room)))
+field-checks t e room h =
+    first-by Refusal.Field (fieldChecks (codeAt e) (fieldsIn e)) (drop 9 (checks t e room)) ∙ ap (λ (w : Verdict Fault). onward Refusal.Field w (first (drop 9 (checks t e room)))) h
 
 -- past some checks those that are left decide
 left : (cs ds : List (Check Refusal)) (t e : List ℕ) (r : Plan) → first cs ≡ first ds → Planned ds t e r → Planned cs t e r
@@ -43,11 +47,11 @@ enum-told-2 c = search needs
 enum-told-3 : tie.Need-enum-told-3
 enum-told-3 c = search needs
 
-enum-told-4 : tie.Need-enum-told-4
-enum-told-4 c = search needs
+enum-known-fault : tie.Need-enum-known-fault
+enum-known-fault c = search needs
 
 link-plan-requires : tie.Need-link-plan-requires
-link-plan-requires c κs = sound EV _ (told (c .before .before) Reading.Fits (c .enum-told4 .given .1) .0) .twelve
+link-plan-requires c κs = sound EV _ (told (c .before .before) Reading.Fits (c .enum-told3 .given .1) .0) .twelve
 
 returns : tie.Need-returns
 returns c = rw (told (c .before .before) Reading.BadFrame (c .enum-told .given .1))
@@ -55,19 +59,20 @@ returns c = rw (told (c .before .before) Reading.BadFrame (c .enum-told .given .
 returns-2 : tie.Need-returns-2
 returns-2 c =
     let h = told (c .before .before) Reading.UnknownCode (c .enum-told2 .given .1) in
-    rw (h .0, code-unknown _ false (h .1))
+    rw (h .0, h .1)
 
 returns-3 : tie.Need-returns-3
 returns-3 c =
-    let h = told (c .before .before) Reading.Misfit (c .enum-told3 .given .1) in
-    rw (h .0, code-unknown _ true (h .1), h .2)
+    let a = c .before .before .before .before .before .before .args in
+    let h = told (c .before .before .before) _ (c .before .fault .given .1) in
+    rw (h .0, h .1) (field-checks (a .t .now) (a .e .now) (a .room) (h .2))
 
 returns-4 : tie.Need-returns-4
 returns-4 c =
     let a = c .before .before .before .before .before .before .args in
-    let h = told (c .before .before .before) Reading.Fits (c .before .enum-told4 .given .1) in
+    let h = told (c .before .before .before) Reading.Fits (c .before .enum-told3 .given .1) in
     let cs = checks (a .t .now) (a .e .now) (a .room) in
-    left (drop 1 cs) (drop 4 cs) (a .t .now) (a .e .now) (c .link-plan .result) (rw (h .0, code-unknown _ true (h .1), h .2)) (c .link-plan .ensures)
+    left (drop 1 cs) (drop 9 cs) (a .t .now) (a .e .now) (c .link-plan .result) (rw (h .0, h .1) (field-checks (a .t .now) (a .e .now) (a .room) (h .2))) (c .link-plan .ensures)
 
 pub planned-spec : {M : Type 1} → statement M
 planned-spec =
@@ -76,8 +81,8 @@ planned-spec =
     read-event-requires
     enum-told
     enum-told-2
+    enum-known-fault
     enum-told-3
-    enum-told-4
     link-plan-requires
     returns
     returns-2
