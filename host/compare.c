@@ -1,8 +1,9 @@
 /*
  * Runs the library and the second machine side by side on equal buffers and holds their answers,
  * and every octet around them, against each other: each cell of Table 6 with each record, each
- * check alone and with the others, long random histories, and bursts of events, these also against
- * the library's own single calls. It ends at the first difference.
+ * check alone and with the others, each code with all that its fields can hold, long random
+ * histories, and bursts of events, these also against the library's own single calls. Some cases
+ * are held against the papers too. It ends at the first difference.
  *
  *     compare [SEED [CALLS [BURSTS]]]     of the random histories
  */
@@ -39,6 +40,21 @@ static unsigned long calls, into_service, out_of_service;
 static unsigned long forgotten[3]; /* a known BSNT: by ESTABLISH_CONFIRM, by ESTABLISH_INDICATION, by anything else */
 static unsigned long retrieved[2]; /* RETRIEVE_BSNT answered, without a number and with one */
 static unsigned long step_refusals[NUMBERS], fresh_refusals[NUMBERS];
+
+/* The fields that a refusal can name: of a step the first six, of a fresh table the last. */
+static const struct { uint32_t refusal, place; } fields[] = {
+    { SSCF_REFUSED_NOT_CARRIED, SSCF_PLACE_PARAMETER },
+    { SSCF_REFUSED_NOT_CARRIED, SSCF_PLACE_NUMBER },
+    { SSCF_REFUSED_NOT_CARRIED, SSCF_PLACE_LENGTH },
+    { SSCF_REFUSED_RANGE, SSCF_PLACE_PARAMETER },
+    { SSCF_REFUSED_RANGE, SSCF_PLACE_NUMBER },
+    { SSCF_REFUSED_SHORT, SSCF_PLACE_LENGTH },
+    { SSCF_REFUSED_RANGE, SSCF_PLACE_N1 }
+};
+
+enum { STEP_FIELDS = 6, FIELDS = sizeof fields / sizeof fields[0] };
+
+static unsigned long told[FIELDS + 1]; /* times each was named; the last is for what cannot be */
 
 /*
  * The buffers of one side: guard, list, guard, table, guard, event, guard, output, guard, close
@@ -139,20 +155,22 @@ static void differ_in_step(const struct call *c, struct sscf_answer a, struct se
     printf("compare: a difference, in call %lu\n", calls);
     printf("table %lu octets, event %lu, output %lu\n", (unsigned long)c->table_octets,
            (unsigned long)c->event_octets, (unsigned long)c->out_octets);
-    printf("library: refusal %lu, octets %lu, signals %lu\n",
-           (unsigned long)a.refusal, (unsigned long)a.octets, (unsigned long)a.signals);
-    printf("second: refusal %lu, octets %lu, signals %lu\n",
-           (unsigned long)b.refusal, (unsigned long)b.octets, (unsigned long)b.signals);
+    printf("library: refusal %lu, octets %lu, signals %lu, place %lu\n", (unsigned long)a.refusal,
+           (unsigned long)a.octets, (unsigned long)a.signals, (unsigned long)a.place);
+    printf("second: refusal %lu, octets %lu, signals %lu, place %lu\n", (unsigned long)b.refusal,
+           (unsigned long)b.octets, (unsigned long)b.signals, (unsigned long)b.place);
     print_memory(c, &second);
     print_case(c);
     exit(1);
 }
 
-static void differ_in_fresh(const struct call *c, unsigned n1, uint32_t a, uint32_t b)
+static void differ_in_fresh(const struct call *c, unsigned n1, struct sscf_fresh_answer a,
+                            struct second_fresh_answer b)
 {
     printf("compare: a difference, in call %lu\n", calls);
-    printf("fresh, table %lu octets, n1 %u: library %lu, second %lu\n", (unsigned long)c->table_octets, n1,
-           (unsigned long)a, (unsigned long)b);
+    printf("fresh, table %lu octets, n1 %u\n", (unsigned long)c->table_octets, n1);
+    printf("library: refusal %lu, place %lu\n", (unsigned long)a.refusal, (unsigned long)a.place);
+    printf("second: refusal %lu, place %lu\n", (unsigned long)b.refusal, (unsigned long)b.place);
     print_memory(c, &second);
     printf("the table before it:\n");
     print_hex(c->table, c->table_octets);
@@ -160,6 +178,18 @@ static void differ_in_fresh(const struct call *c, unsigned n1, uint32_t a, uint3
 }
 
 /* The two calls, each made on both sides. */
+
+/* 10, 11 and 12 name one of the fields from `first` to before `end`, and no other answer does. */
+static void count_field(unsigned first, unsigned end, uint32_t refusal, uint32_t place)
+{
+    unsigned n = first;
+
+    if (place == SSCF_PLACE_NONE && (refusal < 10 || refusal > 12))
+        return;
+    while (n < end && (fields[n].refusal != refusal || fields[n].place != place))
+        n++;
+    told[n < end ? n : FIELDS]++;
+}
 
 static void count_service(const uint8_t *before, const uint8_t *after)
 {
@@ -186,7 +216,7 @@ static void count(const struct call *c)
     count_bsnt(c->event[SSCF_HEAD_AT_CODE], c->table + at, library.table + at);
 }
 
-static uint32_t step(struct call *c)
+static struct sscf_answer step(struct call *c)
 {
     struct sscf_answer a;
     struct second_answer b;
@@ -198,19 +228,20 @@ static uint32_t step(struct call *c)
     a = sscf_step(library.table, c->table_octets, library.event, c->event_octets, library.out, c->out_octets);
     b = second_step(second.table, c->table_octets, second.event, c->event_octets, second.out, c->out_octets);
     if (a.refusal != b.refusal || a.octets != b.octets || a.signals != b.signals
-        || !same_memory(c, &second))
+        || a.place != b.place || !same_memory(c, &second))
         differ_in_step(c, a, b);
-    if (a.refusal < NUMBERS)
-        step_refusals[a.refusal]++;
+    count_refusal(step_refusals, a.refusal);
+    count_field(0, STEP_FIELDS, a.refusal, a.place);
     if (a.refusal == SSCF_ACCEPTED)
         count(c);
     memcpy(c->table, library.table, c->table_octets);
-    return a.refusal;
+    return a;
 }
 
-static uint32_t fresh(struct call *c, unsigned n1)
+static struct sscf_fresh_answer fresh(struct call *c, unsigned n1)
 {
-    uint32_t a, b;
+    struct sscf_fresh_answer a;
+    struct second_fresh_answer b;
 
     calls++;
     c->event_octets = c->out_octets = 0;
@@ -218,10 +249,10 @@ static uint32_t fresh(struct call *c, unsigned n1)
     lay_out(&second, c, 0, 0);
     a = sscf_fresh(library.table, c->table_octets, (uint16_t)n1);
     b = second_fresh(second.table, c->table_octets, (uint16_t)n1);
-    if (a != b || !same_memory(c, &second))
+    if (a.refusal != b.refusal || a.place != b.place || !same_memory(c, &second))
         differ_in_fresh(c, n1, a, b);
-    if (a < NUMBERS)
-        fresh_refusals[a]++;
+    count_refusal(fresh_refusals, a.refusal);
+    count_field(STEP_FIELDS, FIELDS, a.refusal, a.place);
     memcpy(c->table, library.table, c->table_octets);
     return a;
 }
@@ -614,7 +645,10 @@ static void spoil_field(struct call *c)
         c->event[SSCF_HEAD_AT_NUMBER + octet] = (uint8_t)value;
         break;
     default:
-        if (c->event_octets == HEAD) {
+        if (c->event[SSCF_HEAD_AT_CODE] == SSCF_EVENT_MESSAGE_FOR_TRANSMISSION) {
+            sscf_put_16(c->event + SSCF_HEAD_AT_LENGTH, value % 5);
+            c->event_octets = HEAD + value % 5;
+        } else if (c->event_octets == HEAD) {
             c->event[SSCF_HEAD_AT_LENGTH + 1] = (uint8_t)value;
             c->event_octets += value;
         }
@@ -697,7 +731,190 @@ static void every_fresh_length(void)
     fresh(&call, 1);
 }
 
-/* Part 3: histories, in which links come into service and leave. */
+/*
+ * Part 3: every code with every parameter, with numbers set in each of their octets and messages
+ * about each bound, in all combinations. What is wrong with a field goes before what is wrong with
+ * the link or the output, so these are wrong too now and then.
+ */
+
+/* With SOUND nothing else is wrong, but the event may be illegal in the link's state. */
+enum { SOUND, NO_LINK, BAD_RECORD, NO_TIMER, SHORT_OUTPUT, CIRCUMSTANCES };
+static unsigned long met[CIRCUMSTANCES][NUMBERS];
+
+/* The cases of an event: SOUND in each state, then each other circumstance in any state. */
+enum { STATES = 8, CASES = STATES + CIRCUMSTANCES - 1 };
+
+/* A link that a table of three does not have; the last would be one by its lower octet alone. */
+static unsigned link_beyond(void)
+{
+    static const unsigned links[] = { 3, 4, 0xFFFF, 0x0100 };
+
+    return links[below(4)];
+}
+
+static struct sscf_answer try_case(unsigned n, struct kind kind)
+{
+    unsigned circumstance = n < STATES ? SOUND : n - STATES + 1;
+    unsigned state = 1 + (n < STATES ? n : below(STATES)), c1 = below(3), link;
+    uint8_t record[RECORD];
+    struct sscf_answer answer;
+
+    make_record(record, state, circumstance == NO_TIMER ? 0 : ALL_TIMERS, c1, 3);
+    if (circumstance == BAD_RECORD)
+        record[place_to_spoil()] |= 0x80;
+    link = make_table(&call, record);
+    make_event(&call, circumstance == NO_LINK ? link_beyond() : link, kind);
+    if (circumstance == SHORT_OUTPUT)
+        call.out_octets = ROOM - 1;
+    answer = step(&call);
+    count_refusal(met[circumstance], answer.refusal);
+    return answer;
+}
+
+static int is_known(unsigned code)
+{
+    return memchr(codes, (int)code, sizeof codes) != NULL;
+}
+
+/* Parameters that can be in range, and some that cannot, meet every case, the others one each. */
+static void try_fields(struct kind kind)
+{
+    unsigned n;
+
+    if (kind.parameter >= 16 || !is_known(kind.code)) {
+        try_case(below(CASES), kind);
+        return;
+    }
+    for (n = 0; n < CASES; n++)
+        try_case(n, kind);
+}
+
+/*
+ * Some of the numbers are a source, or are not set, by one of their octets alone; so is the length
+ * of the longest message 0 by its lower octet.
+ */
+static void every_number_and_length(unsigned code, unsigned parameter)
+{
+    static const uint32_t numbers[] = { 0, 1, 2, 0x80, 0x000100, 0x010000, 0x000101, 0x010001,
+                                        0x010100, 0x010101, 0x010203, 0xFFFFFF };
+    static const size_t lengths[] = { 0, 1, 3, 4, 5, 6, 100, 4096 };
+    size_t n, m;
+
+    for (n = 0; n < sizeof numbers / sizeof numbers[0]; n++) {
+        for (m = 0; m < sizeof lengths / sizeof lengths[0]; m++) {
+            struct kind kind = { code, parameter, numbers[n], lengths[m], -1 };
+
+            try_fields(kind);
+        }
+    }
+}
+
+static void every_field(void)
+{
+    unsigned code, parameter;
+
+    for (code = 0; code < 256; code++)
+        for (parameter = 0; parameter < 256; parameter++)
+            every_number_and_length(code, parameter);
+}
+
+/*
+ * Cases by name. What is due is written as the papers have it, in numbers that neither side has a
+ * hand in: where both read the papers wrong in the same way, they do not differ.
+ */
+
+struct named {
+    const char *name;
+    struct kind kind;
+    unsigned state; /* of an event that is accepted; one at fault is so in every case */
+    uint32_t refusal, place;
+};
+
+static const struct named at_fault[] = {
+    { "code 18, parameter 6 and a message", { 18, 6, 0, 5, -1 }, 0, 10, 10 },
+    { "code 18, parameter 6, source 2 and a message", { 18, 6, 2, 5, -1 }, 0, 10, 10 },
+    { "code 18, parameter 0 and source 256", { 18, 0, 256, 0, -1 }, 0, 11, 6 },
+    { "code 18, parameter 6 and source 2", { 18, 6, 2, 0, -1 }, 0, 11, 5 },
+    { "code 18, parameter 6 and source 1", { 18, 6, 1, 0, -1 }, 0, 11, 5 },
+    { "code 18, parameter 11", { 18, 11, 0, 0, -1 }, 0, 11, 5 },
+    { "code 16, parameter 6 and a number", { 16, 6, 1, 0, -1 }, 0, 10, 6 },
+    { "code 17, parameter 4 and a message", { 17, 4, 0, 4, -1 }, 0, 10, 10 },
+    { "code 17, parameter 255", { 17, 255, 0, 0, -1 }, 0, 11, 5 },
+    { "code 20 and a parameter", { 20, 1, 1, 5, -1 }, 0, 10, 5 },
+    { "code 23 and a parameter", { 23, 128, 0, 5, -1 }, 0, 10, 5 },
+    { "code 24 and a number", { 24, 0, 1, 5, -1 }, 0, 10, 6 },
+    { "code 4 and a message of 4 octets", { 4, 0, 0, 4, -1 }, 0, 10, 10 },
+    { "code 5 and all fields", { 5, 1, 1, 1, -1 }, 0, 10, 5 },
+    { "code 5, a number and a message", { 5, 0, 1, 1, -1 }, 0, 10, 6 },
+    { "code 6 and a number in octet 6 alone", { 6, 0, 0x010000, 0, -1 }, 0, 10, 6 },
+    { "code 49 and a number in octet 8 alone", { 49, 0, 0x000001, 0, -1 }, 0, 10, 6 },
+    { "code 50 and the longest message", { 50, 0, 0, 4096, -1 }, 0, 10, 10 },
+    { "code 7 and a message of 3 octets", { 7, 0, 1, 3, -1 }, 0, 10, 10 },
+    { "code 1 without a message", { 1, 0, 0, 0, -1 }, 0, 12, 10 },
+    { "code 1 and a message of 4 octets", { 1, 0, 0, 4, -1 }, 0, 12, 10 },
+    { "code 1, a number and a message of 2 octets", { 1, 0, 1, 2, -1 }, 0, 10, 6 },
+    { "code 1, a parameter and no message", { 1, 1, 0, 0, -1 }, 0, 10, 5 },
+    { "code 39 with level 4", { 39, 4, 0, 0, -1 }, 0, 11, 5 },
+    { "code 39 with level 4 and a number", { 39, 4, 1, 0, -1 }, 0, 10, 6 },
+    { "code 51, which is none, and all fields", { 51, 6, 2, 3, -1 }, 0, 3, 0 }
+};
+
+static const struct named accepted[] = {
+    { "code 1 and a message of 5 octets", { 1, 0, 0, 5, -1 }, 8, 0, 0 },
+    { "code 7 and the highest number", { 7, 0, 0xFFFFFF, 0, -1 }, 1, 0, 0 },
+    { "code 16 without a field", { 16, 0, 0, 0, -1 }, 3, 0, 0 },
+    { "code 18, parameter 10 and source 1", { 18, 10, 1, 0, -1 }, 8, 0, 0 },
+    { "code 20, the highest number and no message", { 20, 0, 0xFFFFFF, 0, -1 }, 8, 0, 0 },
+    { "code 39 with level 3", { 39, 3, 0, 0, -1 }, 6, 0, 0 }
+};
+
+enum { AT_FAULT = sizeof at_fault / sizeof at_fault[0],
+       ACCEPTED = sizeof accepted / sizeof accepted[0] };
+
+static void hold_by_name(const char *name, uint32_t refusal, uint32_t place,
+                         uint32_t due_number, uint32_t due_place)
+{
+    if (refusal == due_number && place == due_place)
+        return;
+    printf("compare: %s: refusal %lu, place %lu; due are %lu and %lu\n", name,
+           (unsigned long)refusal, (unsigned long)place, (unsigned long)due_number,
+           (unsigned long)due_place);
+    exit(1);
+}
+
+static void hold_case(const struct named *named, unsigned n)
+{
+    struct sscf_answer answer = try_case(n, named->kind);
+
+    hold_by_name(named->name, answer.refusal, answer.place, named->refusal, named->place);
+}
+
+static void hold_fresh(const char *name, size_t octets, unsigned n1, uint32_t refusal,
+                       uint32_t place)
+{
+    struct sscf_fresh_answer answer;
+
+    call.table_octets = octets;
+    answer = fresh(&call, n1);
+    hold_by_name(name, answer.refusal, answer.place, refusal, place);
+}
+
+static void cases_by_name(void)
+{
+    unsigned n, m;
+
+    for (n = 0; n < AT_FAULT; n++)
+        for (m = 0; m < CASES; m++)
+            hold_case(&at_fault[n], m);
+    for (n = 0; n < ACCEPTED; n++)
+        hold_case(&accepted[n], accepted[n].state - 1);
+    hold_fresh("a fresh table with n1 0", 2 * RECORD, 0, 11, 14);
+    hold_fresh("a fresh table of no link with n1 0", 0, 0, 1, 0);
+    hold_fresh("a fresh table of half a link with n1 0", RECORD / 2, 0, 1, 0);
+    hold_fresh("a fresh table with n1 1", 2 * RECORD, 1, 0, 0);
+}
+
+/* Part 4: histories, in which links come into service and leave. */
 
 /* The event that leads a link on from its state, and now and then another that does. */
 static unsigned likely_code(unsigned state)
@@ -816,7 +1033,7 @@ static void random_call(struct call *c, size_t octets)
     c->table_octets = one_in(60) ? wrong_table_length(octets) : octets;
     c->out_octets = output_length();
     /* A damaged octet that was taken is the link's from then on; one that was refused is mended. */
-    if (step(c) != 0 && damaged)
+    if (step(c).refusal != SSCF_ACCEPTED && damaged)
         *octet = before;
 }
 
@@ -840,7 +1057,7 @@ static void histories(unsigned long count)
 }
 
 /*
- * Part 4: bursts. To the library's and the second machine's come the library's single calls, made
+ * Part 5: bursts. To the library's and the second machine's come the library's single calls, made
  * one after the other on buffers of their own: this is what a burst has to equal.
  */
 
@@ -895,6 +1112,16 @@ static uint32_t due_refusal(const struct call *c)
     return c->places < sound_frames(c) ? SSCF_REFUSED_LIST : SSCF_ACCEPTED;
 }
 
+/* One of the single calls. Its place is not the burst's to tell, but it is told here as ever. */
+static struct sscf_answer one_step(const struct call *c, const uint8_t *event, size_t octets,
+                                   uint8_t *out, size_t room)
+{
+    struct sscf_answer one = sscf_step(single.table, c->table_octets, event, octets, out, room);
+
+    count_field(0, STEP_FIELDS, one.refusal, one.place);
+    return one;
+}
+
 /*
  * Whether single calls go on, as the papers order what is asked. What ended them is asked of the
  * step, which refuses it and so changes nothing.
@@ -909,11 +1136,10 @@ static int goes_on(const struct call *c, struct sscf_burst_answer *answer)
     if (left == 0) {
         ends[full ? END_FULL : END_ROOM]++;
     } else if (wrong_with(event, left) != 0) {
-        answer->broken = sscf_step(single.table, c->table_octets, event, left, out, room).refusal;
+        answer->broken = one_step(c, event, left, out, room).refusal;
         ends[full ? FRAME_FULL : FRAME_ROOM]++;
     } else if (full) {
-        struct sscf_answer one =
-            sscf_step(single.table, c->table_octets, event, frame_octets(event), out, room);
+        struct sscf_answer one = one_step(c, event, frame_octets(event), out, room);
 
         ends[one.refusal == SSCF_REFUSED_OUTPUT ? FULL_ACCEPTED : FULL_REFUSED]++;
     } else {
@@ -930,8 +1156,7 @@ static struct sscf_burst_answer single_calls(const struct call *c)
 
     while (answer.refusal == SSCF_ACCEPTED && goes_on(c, &answer)) {
         const uint8_t *event = single.event + answer.at;
-        struct sscf_answer one =
-            sscf_step(single.table, c->table_octets, event, frame_octets(event), out, ROOM);
+        struct sscf_answer one = one_step(c, event, frame_octets(event), out, ROOM);
 
         memcpy(single.out + answer.octets, out, one.octets);
         single.list[answer.taken++] = one.refusal;
@@ -1002,7 +1227,7 @@ static void count_burst(const struct call *c, struct sscf_burst_answer answer)
 {
     size_t sound = sound_frames(c), n;
 
-    burst_refusals[answer.refusal]++;
+    count_refusal(burst_refusals, answer.refusal);
     if (answer.refusal == SSCF_REFUSED_LIST)
         lists[c->places == 0 ? NONE : c->places + 1 == sound ? ONE_SHORT : SHORTER]++;
     if (answer.refusal != SSCF_ACCEPTED)
@@ -1010,8 +1235,7 @@ static void count_burst(const struct call *c, struct sscf_burst_answer answer)
     lists[c->places == sound ? EXACT : LONGER]++;
     events_taken += answer.taken;
     for (n = 0; n < answer.taken; n++)
-        if (library.list[n] < NUMBERS)
-            list_refusals[library.list[n]]++;
+        count_refusal(list_refusals, library.list[n]);
     for (n = 0; n < c->table_octets; n += RECORD)
         count_service(c->table + n, library.table + n);
 }
@@ -1262,7 +1486,82 @@ static void many_octets(void)
     }
 }
 
+/*
+ * The cases by name that are at fault, all in one burst, every second one for a link that is not
+ * there: the list takes the numbers alone.
+ */
+static void burst_by_name(void)
+{
+    unsigned n;
+
+    make_record(burst.table, SSCF_STATE_3_10_5, ALL_TIMERS, 0, 1);
+    begin_burst(RECORD);
+    for (n = 0; n < AT_FAULT; n++) {
+        make_event(&call, n % 2, at_fault[n].kind);
+        add_to_burst();
+    }
+    burst.table_octets = RECORD;
+    burst.out_octets = ROOM;
+    burst.places = AT_FAULT;
+    try_burst(&burst);
+    for (n = 0; n < AT_FAULT; n++)
+        hold_by_name(at_fault[n].name, library.list[n], 0, at_fault[n].refusal, 0);
+}
+
 /* The parts. */
+
+/* All kinds of a thing must have been there, or it says little that they did not differ. */
+static int never_counted(const char *name, const char *what, const char *const *kinds,
+                         const unsigned long *counts, unsigned many)
+{
+    int missing = 0;
+    unsigned n;
+
+    printf("%s, times %s:", name, what);
+    for (n = 0; n < many; n++) {
+        printf("%s %s: %lu", n > 0 ? "," : "", kinds[n], counts[n]);
+        missing |= counts[n] == 0;
+    }
+    printf("\n");
+    if (missing)
+        printf("%s: one was never seen\n", name);
+    return missing;
+}
+
+static int named_otherwise(const char *name)
+{
+    if (told[FIELDS] != 0)
+        printf("%s: a field was named that cannot be, or none where one is due\n", name);
+    return told[FIELDS] != 0;
+}
+
+static int never_named(void)
+{
+    static const char *const names[FIELDS] = { "10 at 5", "10 at 6", "10 at 10", "11 at 5",
+                                               "11 at 6", "12 at 10", "fresh 11 at 14" };
+
+    return never_counted("fields", "each was named", names, told, FIELDS)
+         | named_otherwise("fields");
+}
+
+/* What is told of the event comes whatever else is wrong, and of the rest only what is so. */
+static int never_met(void)
+{
+    static const struct { const char *name; unsigned wanted; } circumstances[CIRCUMSTANCES] = {
+        [SOUND] = { "fields, nothing else wrong", 1 << 0 | 1 << 8 },
+        [NO_LINK] = { "fields, no such link", 1 << 5 },
+        [BAD_RECORD] = { "fields, bad record", 1 << 6 },
+        [NO_TIMER] = { "fields, no timer running", 1 << 0 | 1 << 7 | 1 << 8 },
+        [SHORT_OUTPUT] = { "fields, output of 4,191", 1 << 8 | 1 << 9 }
+    };
+    unsigned of_the_event = 1 << 3 | 1 << 10 | 1 << 11 | 1 << 12, n;
+    int failed = 0;
+
+    for (n = 0; n < CIRCUMSTANCES; n++)
+        failed |= never_seen(circumstances[n].name, met[n],
+                             of_the_event | circumstances[n].wanted);
+    return failed;
+}
 
 static int steps(unsigned long random_calls)
 {
@@ -1281,6 +1580,10 @@ static int steps(unsigned long random_calls)
     every_fresh_length();
     printf("checks: %lu calls\n", calls - before);
     before = calls;
+    cases_by_name();
+    every_field();
+    printf("fields: %lu calls\n", calls - before);
+    before = calls;
     failed = forgotten[2] != 0;
     into_service = out_of_service = forgotten[0] = forgotten[1] = retrieved[0] = retrieved[1] = 0;
     histories(random_calls);
@@ -1288,30 +1591,15 @@ static int steps(unsigned long random_calls)
            into_service, out_of_service);
     printf("BSNT: forgotten %lu times by a confirm, %lu times by a response; retrieved %lu times, %lu times not\n",
            forgotten[0], forgotten[1], retrieved[1], retrieved[0]);
-    failed |= never_seen("step", step_refusals, 0x3FF);
+    /* No step is refused by 4, which is given no more, or by 13, which is a burst's. */
+    failed |= never_seen("step", step_refusals, 0x1FEF);
     failed |= never_seen("fresh", fresh_refusals,
-                         1 << SSCF_ACCEPTED | 1 << SSCF_REFUSED_TABLE | 1 << SSCF_REFUSED_FIELD);
+                         1 << SSCF_ACCEPTED | 1 << SSCF_REFUSED_TABLE | 1 << SSCF_REFUSED_RANGE);
+    failed |= never_named();
+    failed |= never_met();
     failed |= into_service == 0 || out_of_service == 0;
     failed |= forgotten[0] == 0 || forgotten[1] == 0 || forgotten[2] != 0 || retrieved[0] == 0 || retrieved[1] == 0;
     return failed;
-}
-
-/* Bursts of every kind must have been there, or it says little that they did not differ. */
-static int never_counted(const char *what, const char *const *kinds, const unsigned long *counts,
-                         unsigned many)
-{
-    int missing = 0;
-    unsigned n;
-
-    printf("burst, times %s:", what);
-    for (n = 0; n < many; n++) {
-        printf("%s %s: %lu", n > 0 ? "," : "", kinds[n], counts[n]);
-        missing |= counts[n] == 0;
-    }
-    printf("\n");
-    if (missing)
-        printf("burst: one was never seen\n");
-    return missing;
 }
 
 static int never_so(void)
@@ -1325,13 +1613,13 @@ static int never_so(void)
                                                     "longer" };
     static const char *const ways[WAYS] = { "under 12 octets", "SG", "another mark", "octet 9",
                                             "over 4,096", "one past the end", "more past it" };
-    int failed = never_counted("it ended", end_kinds, ends, ENDS);
+    int failed = never_counted("burst", "it ended", end_kinds, ends, ENDS);
 
-    failed |= never_counted("its first frame was broken by", ways, broken[FIRST], WAYS);
+    failed |= never_counted("burst", "its first frame was broken by", ways, broken[FIRST], WAYS);
     /* What is cut off is the last, and no other. */
-    failed |= never_counted("one between was", ways + 1, broken[BETWEEN] + 1, WAYS - 1);
-    failed |= never_counted("its last was", ways, broken[LAST], WAYS);
-    return failed | never_counted("its list was", list_kinds, lists, LISTS);
+    failed |= never_counted("burst", "one between was", ways + 1, broken[BETWEEN] + 1, WAYS - 1);
+    failed |= never_counted("burst", "its last was", ways, broken[LAST], WAYS);
+    return failed | never_counted("burst", "its list was", list_kinds, lists, LISTS);
 }
 
 static int all_bursts(unsigned long random_bursts)
@@ -1341,14 +1629,16 @@ static int all_bursts(unsigned long random_bursts)
     into_service = out_of_service = 0;
     many_events();
     many_octets();
+    burst_by_name();
     burst_histories(random_bursts);
     printf("bursts: %lu calls, %lu events taken, links into service %lu times, out of it %lu"
            " times\n", bursts, events_taken, into_service, out_of_service);
     failed = never_so();
     failed |= never_seen("burst", burst_refusals, 1 << SSCF_ACCEPTED | 1 << SSCF_REFUSED_TABLE
                                                       | 1 << SSCF_REFUSED_LIST);
-    /* No event is refused by 1, 2 or 9. */
-    failed |= never_seen("burst's list", list_refusals, 0x1F9);
+    /* No event is refused by 1, 2, 4 or 9, and the list takes no place beside a number. */
+    failed |= never_seen("burst's list", list_refusals, 0x1DE9);
+    failed |= named_otherwise("burst's single calls");
     return failed | (into_service == 0 || out_of_service == 0);
 }
 

@@ -83,7 +83,13 @@ static inline void print_first_octet(const char *name, const char *other, const 
     }
 }
 
-enum { NUMBERS = 14 }; /* the refusals of all calls are below it */
+/* The refusals of all calls are below the last of these, at which whatever is none is counted. */
+enum { NUMBERS = 15 };
+
+static inline void count_refusal(unsigned long *refusals, uint32_t refusal)
+{
+    refusals[refusal < NUMBERS ? refusal : NUMBERS - 1]++;
+}
 
 /*
  * That there is no difference says little of an answer that was never given. `wanted` has a bit for
@@ -91,6 +97,7 @@ enum { NUMBERS = 14 }; /* the refusals of all calls are below it */
  */
 static inline int never_seen(const char *name, const unsigned long *refusals, unsigned wanted)
 {
+    const char *between = "";
     int missing = 0, odd = 0;
     unsigned n;
 
@@ -100,7 +107,8 @@ static inline int never_seen(const char *name, const unsigned long *refusals, un
             odd |= refusals[n] != 0;
             continue;
         }
-        printf("%s %u: %lu", n > 0 ? "," : "", n, refusals[n]);
+        printf("%s %u: %lu", between, n, refusals[n]);
+        between = ",";
         missing |= refusals[n] == 0;
     }
     printf("\n");

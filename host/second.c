@@ -763,36 +763,80 @@ static bool bad_status(unsigned field)
     return field > PNS || field == 6;
 }
 
-/* Answers 3 for an unknown code, 4 for fields that do not suit it, otherwise 0. */
-static uint32_t bad_fields(const uint8_t *event, uint32_t length)
+/* What is wrong with the fields: the refusal and the place where its field begins, or 0 and 0. */
+struct fault {
+    uint32_t refusal, place;
+};
+
+static struct fault fault_at(uint32_t refusal, uint32_t place)
+{
+    struct fault fault = { refusal, place };
+
+    return fault;
+}
+
+static struct fault no_fault(void)
+{
+    return fault_at(0, 0);
+}
+
+/* 10 for the first field that is set and not carried. One that the code carries is given as 0. */
+static struct fault not_carried(unsigned parameter, uint32_t number, uint32_t length)
+{
+    /* All at one test, since nearly every event passes it. */
+    if ((parameter | number | length) == 0)
+        return no_fault();
+    return fault_at(10, parameter != 0 ? PARAMETER : number != 0 ? NUMBER : LENGTH);
+}
+
+/* 11 for the first field out of its range. Of the numbers only a source has one. */
+static struct fault out_of_range(bool parameter, bool source)
+{
+    return parameter ? fault_at(11, PARAMETER) : source ? fault_at(11, NUMBER) : no_fault();
+}
+
+/* 12: the peer would take so short a message for a unit. */
+static struct fault too_short(uint32_t length)
+{
+    return length < SHORTEST_USER_MESSAGE ? fault_at(12, LENGTH) : no_fault();
+}
+
+/* The lower refusal goes first even if its field stands behind that of the higher. */
+static struct fault either(struct fault lower, struct fault higher)
+{
+    return lower.refusal != 0 ? lower : higher;
+}
+
+/* Answers 3 without a place for an unknown code, 10, 11 or 12 for fields that do not suit it. */
+static struct fault bad_fields(const uint8_t *event, uint32_t length)
 {
     unsigned parameter = event[PARAMETER];
     uint32_t number = three(event + NUMBER);
 
     switch (event[CODE]) {
     case MESSAGE_FOR_TRANSMISSION:
-        return parameter != 0 || number != 0 || length < SHORTEST_USER_MESSAGE ? 4 : 0;
+        return either(not_carried(parameter, number, 0), too_short(length));
     case RETRIEVAL_REQUEST_AND_FSNC:
-        return parameter != 0 || length != 0 ? 4 : 0;
+        return not_carried(parameter, 0, length);
     case ESTABLISH_INDICATION: case ESTABLISH_CONFIRM:
-        return bad_status(parameter) || number != 0 || length != 0 ? 4 : 0;
+        return either(not_carried(0, number, length), out_of_range(bad_status(parameter), false));
     case RELEASE_INDICATION:
-        return bad_status(parameter) || number > 1 || length != 0 ? 4 : 0;
+        return either(not_carried(0, 0, length), out_of_range(bad_status(parameter), number > 1));
     case DATA:
-        return parameter != 0 ? 4 : 0;
+        return not_carried(parameter, 0, 0);
     case UNITDATA: case RETRIEVE:
-        return parameter != 0 || number != 0 ? 4 : 0;
+        return not_carried(parameter, number, 0);
     case CONGESTION:
-        return parameter > 3 || number != 0 || length != 0 ? 4 : 0;
+        return either(not_carried(0, number, length), out_of_range(parameter > 3, false));
     case EMERGENCY: case EMERGENCY_CEASES: case STOP: case START: case RETRIEVE_BSNT:
     case FLUSH_BUFFERS: case CONTINUE:
     case RELEASE_CONFIRM: case RESYNC: case RECOVER: case RETRIEVE_COMPLETE:
     case PROVING_UNSUCCESSFUL: case MANAGEMENT_RELEASE: case OUTAGE: case RECOVERED:
     case FORCE_PROVING: case FORCE_EMERGENCY: case CLEAR_FORCE_MODES: case CONGESTION_CEASED:
     case T1_EXPIRED: case T2_EXPIRED: case T3_EXPIRED:
-        return parameter != 0 || number != 0 || length != 0 ? 4 : 0;
+        return not_carried(parameter, number, length);
     default:
-        return 3;
+        return fault_at(3, 0);
     }
 }
 
@@ -815,11 +859,17 @@ static bool not_running(const uint8_t *link, unsigned code)
     return code >= T1_EXPIRED && !(link[TIMERS] >> (code - T1_EXPIRED) & 1);
 }
 
-static struct second_answer refuse(uint32_t number)
+static struct second_answer refuse_at(uint32_t number, uint32_t place)
 {
-    struct second_answer answer = { number, 0, 0 };
+    struct second_answer answer = { number, 0, 0, place };
 
     return answer;
+}
+
+/* All refusals but 10, 11 and 12 name no field, and have place 0. */
+static struct second_answer refuse(uint32_t number)
+{
+    return refuse_at(number, 0);
 }
 
 /* An illegal cell goes before a short output, so the cell is tried where nothing of it shows. */
@@ -842,12 +892,12 @@ static struct second_answer step_sound_frame(uint8_t *table, size_t table_octets
                                              uint8_t *out, size_t out_octets)
 {
     struct step s = { table, event, out, (uint32_t)event_octets - HEADER, 0 };
-    struct second_answer answer = { 0, 0, 0 };
-    uint32_t refusal;
+    struct second_answer answer = { 0, 0, 0, 0 };
+    struct fault fault;
 
-    refusal = bad_fields(event, s.length);
-    if (refusal != 0)
-        return refuse(refusal);
+    fault = bad_fields(event, s.length);
+    if (fault.refusal != 0)
+        return refuse_at(fault.refusal, fault.place);
     if (two(event + LINK) >= table_octets / RECORD)
         return refuse(5);
     s.link += RECORD * two(event + LINK);
@@ -939,6 +989,7 @@ struct second_burst_answer second_burst(uint8_t *table, size_t table_octets,
         if (room < ROOM)
             break;
         one = step_sound_frame(table, table_octets, event, frame, out + answer.octets, room);
+        /* The number alone: the list has no room for a place. */
         refusals[answer.taken] = one.refusal;
         answer.taken++;
         answer.at += frame;
@@ -948,14 +999,24 @@ struct second_burst_answer second_burst(uint8_t *table, size_t table_octets,
     return answer;
 }
 
-uint32_t second_fresh(uint8_t *table, size_t table_octets, uint16_t n1)
+/* A fresh table. */
+
+static struct second_fresh_answer fresh_answer(uint32_t refusal, uint32_t place)
+{
+    struct second_fresh_answer answer = { refusal, place };
+
+    return answer;
+}
+
+struct second_fresh_answer second_fresh(uint8_t *table, size_t table_octets, uint16_t n1)
 {
     size_t at;
 
     if (bad_table(table_octets))
-        return 1;
+        return fresh_answer(1, 0);
+    /* There is no event here: the place is that of n1 in a record. */
     if (n1 == 0)
-        return 4;
+        return fresh_answer(11, N1);
     for (at = 0; at < table_octets; at += RECORD) {
         uint8_t *link = table + at;
 
@@ -966,7 +1027,7 @@ uint32_t second_fresh(uint8_t *table, size_t table_octets, uint16_t n1)
         link[N1] = (uint8_t)(n1 >> 8);
         link[N1 + 1] = (uint8_t)n1;
     }
-    return 0;
+    return fresh_answer(0, 0);
 }
 
 /*

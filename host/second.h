@@ -8,13 +8,22 @@
 #include <stddef.h>
 #include <stdint.h>
 
-/* What a step answers: the number of the refusal, or 0, the octets written and the signals in them. */
+/*
+ * What a step answers: the number of the refusal, or 0, the octets written, the signals in them and
+ * a place. With 10, 11 and 12 that is where in the event the first field at fault begins, parameter
+ * 5, number 6 or length 10; with all others, and with 0, it is 0.
+ */
 struct second_answer {
-    uint32_t refusal, octets, signals;
+    uint32_t refusal, octets, signals, place;
 };
 
-/* Makes every link of the table anew with n1; answers 0, or 1 or 4 and leaves the table alone. */
-uint32_t second_fresh(uint8_t *table, size_t table_octets, uint16_t n1);
+/* What the maker of a table answers: the number of the refusal, or 0; with 11 place 14, else 0. */
+struct second_fresh_answer {
+    uint32_t refusal, place;
+};
+
+/* Makes every link of the table anew with n1; refuses by 1 or 11 and leaves the table alone. */
+struct second_fresh_answer second_fresh(uint8_t *table, size_t table_octets, uint16_t n1);
 
 /* Takes one event for one link. The buffers are valid for their lengths and do not overlap. */
 struct second_answer second_step(uint8_t *table, size_t table_octets,
@@ -31,9 +40,10 @@ struct second_burst_answer {
 };
 
 /*
- * Takes events that stand end to end, as so many steps would, and puts the refusal of each, or 0,
- * into the list. Stops at a broken frame, and at an event for which the output has no room. Refuses
- * by 1 or 13 with nothing written. The buffers are valid for their lengths and do not overlap.
+ * Takes events that stand end to end, as so many steps would, and puts the number of each refusal,
+ * or 0, into the list, without a place. Stops at a broken frame, and at an event for which the
+ * output has no room. Refuses by 1 or 13 with nothing written. The buffers are valid for their
+ * lengths and do not overlap.
  */
 struct second_burst_answer second_burst(uint8_t *table, size_t table_octets,
                                         const uint8_t *events, size_t events_octets,
