@@ -1,8 +1,8 @@
 /*
  * A test of conformance: it makes the calls and checks every octet of what comes back, where all
  * is well and where it is not. What it expects is written down from Q.2140's Table 6, from Q.2210's
- * figures for the changeover messages, and from the layouts in sscf.h; nothing of it is taken from
- * the library, but that a burst of one event is held against its single call.
+ * figures for the changeover messages, and from the layouts and the refusals in sscf.h; nothing of
+ * it is taken from the library, but that a burst of one event is held against its single call.
  */
 #include <sscf_host.h>
 
@@ -180,16 +180,30 @@ static uint8_t *lent(uint8_t *buffer, size_t octets)
     return octets == 0 ? NULL : buffer;
 }
 
-static void step_is(uint32_t refusal, int line)
+static struct sscf_answer step(void)
 {
-    struct sscf_answer answer =
-        sscf_step(lent(now.table, table_octets), table_octets, lent(now.event, event_octets),
-                  event_octets, lent(now.out, out_octets), out_octets);
+    return sscf_step(lent(now.table, table_octets), table_octets, lent(now.event, event_octets),
+                     event_octets, lent(now.out, out_octets), out_octets);
+}
+
+static void step_is(uint32_t refusal, uint32_t place, int line)
+{
+    struct sscf_answer answer = step();
 
     check(answer.refusal == refusal, "the refusal is the one expected", line);
     check(answer.octets == want_octets, "the octets are those expected", line);
     check(answer.signals == want_signals, "the signals are those expected", line);
+    check(answer.place == place, "the place is the one expected", line);
     check(memcmp(&now, &want, sizeof now) == 0, "the buffers are as expected", line);
+}
+
+/* Where it is not told what is written. */
+static void accepted_is(int line)
+{
+    struct sscf_answer answer = step();
+
+    check(answer.refusal == SSCF_ACCEPTED, "it is accepted", line);
+    check(answer.place == 0, "no field is at fault", line);
 }
 
 static void burst_is(uint32_t refusal, uint32_t broken, size_t taken, size_t at, int line)
@@ -208,18 +222,24 @@ static void burst_is(uint32_t refusal, uint32_t broken, size_t taken, size_t at,
     check(memcmp(&now, &want, sizeof now) == 0, "the buffers are as expected", line);
 }
 
-static void fresh_is(size_t octets, unsigned n1, uint32_t refusal, int line)
+static void fresh_is(size_t octets, unsigned n1, uint32_t refusal, uint32_t place, int line)
 {
-    uint32_t answer = sscf_fresh(lent(now.table, octets), octets, (uint16_t)n1);
+    struct sscf_fresh_answer answer = sscf_fresh(lent(now.table, octets), octets, (uint16_t)n1);
 
-    check(answer == refusal, "the refusal is the one expected", line);
+    check(answer.refusal == refusal, "the refusal is the one expected", line);
+    check(answer.place == place, "the place is the one expected", line);
     check(memcmp(&now, &want, sizeof now) == 0, "the buffers are as expected", line);
 }
 
-#define STEP(refusal) step_is((refusal), __LINE__)
+/* A place is told by STEP_AT and FRESH_AT; with every other answer it is 0. */
+#define STEP(refusal) step_is((refusal), 0, __LINE__)
+#define STEP_AT(refusal, place) step_is((refusal), (place), __LINE__)
+#define ACCEPTED() accepted_is(__LINE__)
 #define BURST(refusal, broken, taken, at)                                                          \
     burst_is((refusal), (broken), (taken), (at), __LINE__)
-#define FRESH(octets, n1, refusal) fresh_is((octets), (n1), (refusal), __LINE__)
+#define FRESH(octets, n1, refusal) fresh_is((octets), (n1), (refusal), 0, __LINE__)
+#define FRESH_AT(octets, n1, refusal, place)                                                       \
+    fresh_is((octets), (n1), (refusal), (place), __LINE__)
 
 static const uint8_t nm_unit[SSCF_UNIT_OCTETS] = {0, 0, 0, SSCF_STATUS_NM};
 static const uint8_t ins_unit[SSCF_UNIT_OCTETS] = {0, 0, 0, SSCF_STATUS_INS};
@@ -241,7 +261,8 @@ static void version(void)
 static void fresh_tables(void)
 {
     static const uint8_t record[16] = {'L', 'K', 1, 0, 0, 0, 0, 0, 0, 0, 0, 0, 0, 0, 0x03, 0xe8};
-    size_t links;
+    static const uint16_t n1s[] = {1, 0xff, 0x100, 0xffff};
+    size_t links, n1;
 
     for (links = 1; links <= SSCF_LINKS_MAX; links++) {
         size_t i;
@@ -252,23 +273,30 @@ static void fresh_tables(void)
             memcpy(want.table + 16 * i, record, 16);
         FRESH(16 * links, 1000, 0);
     }
-    want.table[14] = want.table[15] = 0xff;
-    FRESH(16, 0xffff, 0);
+    for (n1 = 0; n1 < 4; n1++) {
+        turn = n1;
+        sscf_put_16(want.table + 14, n1s[n1]);
+        FRESH(16, n1s[n1], 0);
+    }
 }
 
+/* By 1 whatever n1 is, and by 11 at n1, which stands in octets 14 and 15 of a record. */
 static void fresh_refusals(void)
 {
+    static const size_t tables[] = {0, 1, 15, 17, 4095, 4097, 4112};
+    size_t i;
+
     set_up(0);
     want_nothing();
-    FRESH(0, 1000, 1);
-    FRESH(15, 1000, 1);
-    FRESH(17, 1000, 1);
-    FRESH(4097, 1000, 1);
-    FRESH(4112, 1000, 1);
-    FRESH(16, 0, 4);
-    FRESH(4096, 0, 4);
-    FRESH(0, 0, 1);
-    FRESH(4112, 0, 1);
+    for (i = 0; i < sizeof tables / sizeof *tables; i++) {
+        turn = i;
+        FRESH(tables[i], 1000, 1);
+        FRESH(tables[i], 0, 1);
+    }
+    for (i = 1; i <= SSCF_LINKS_MAX; i++) {
+        turn = i;
+        FRESH_AT(16 * i, 0, 11, 14);
+    }
 }
 
 /* The first uses in sscf.h and in sscf_host.h, as they stand there. */
@@ -283,11 +311,12 @@ static void first_use(void)
     struct sscf_answer answer;
     uint32_t n;
 
-    CHECK(sscf_fresh(table, sizeof table, SSCF_N1_DEFAULT) == SSCF_ACCEPTED);
+    CHECK(sscf_fresh(table, sizeof table, SSCF_N1_DEFAULT).refusal == SSCF_ACCEPTED);
     answer = sscf_step(table, sizeof table, start, sizeof start, out, sizeof out);
     CHECK(answer.refusal == SSCF_ACCEPTED);
     CHECK(answer.octets == 36);
     CHECK(answer.signals == 3);
+    CHECK(answer.place == SSCF_PLACE_NONE);
     for (n = 0; n < answer.signals && n < 3; n++) {
         size_t length = (size_t)signal[10] << 8 | signal[11];
         turn = n;
@@ -308,6 +337,7 @@ static void first_use_by_helpers(void)
     sscf_fresh(table, sizeof table, SSCF_N1_DEFAULT);
     answer = sscf_step(table, sizeof table, event, octets, out, sizeof out);
     CHECK(strcmp(sscf_refusal_name(answer.refusal), "accepted") == 0);
+    CHECK(strcmp(sscf_place_name(answer.place), "-") == 0);
     for (signal = sscf_first_signal(out, answer); signal != NULL && names[turn] != NULL;
          signal = sscf_next_signal(out, answer, signal))
         CHECK(strcmp(sscf_signal_name(signal[SSCF_HEAD_AT_CODE]), names[turn++]) == 0);
@@ -714,7 +744,10 @@ static void broken_frames(void)
     }
 }
 
-/* What may stand in an event of each code. */
+/*
+ * Refusal 3, and those of request 2026-05: 10, 11 and 12, each at the first octet of the first
+ * field at fault. Which fields an event carries stands in sscf.h beside its code.
+ */
 
 static int known(unsigned code)
 {
@@ -722,48 +755,288 @@ static int known(unsigned code)
            (code >= 48 && code <= 50);
 }
 
-static int carried(unsigned code, unsigned parameter, uint32_t number, size_t length)
+static int has_parameter(unsigned code)
 {
-    int status = parameter <= 10 && parameter != 6;
-    int parameter_fits = code >= 16 && code <= 18 ? status
-                         : code == 39             ? parameter <= 3
-                                                  : parameter == 0;
-    int number_fits = code == 7 || code == 20 || number <= (code == 18 ? 1 : 0);
-    int length_fits = code == 1 ? length >= 5
-                                : code == 20 || code == 23 || code == 24 || length == 0;
-
-    return parameter_fits && number_fits && length_fits;
+    return (code >= 16 && code <= 18) || code == 39;
 }
 
-/* Refusals 3 and 4, for every code. The link is one too high, so that a sound event is refused too,
- * by 5 and whatever the state. */
+static int has_number(unsigned code)
+{
+    return code == 7 || code == 18 || code == 20;
+}
+
+static int has_message(unsigned code)
+{
+    return code == 1 || code == 20 || code == 23 || code == 24;
+}
+
+struct fault {
+    uint32_t refusal, place;
+};
+
+/* The first thing wrong: 10 is asked of all fields, then 11, then 12. Two zeros for nothing. */
+static struct fault first_fault(unsigned code, unsigned parameter, uint32_t number, size_t length)
+{
+    const struct {
+        int wrong;
+        struct fault fault;
+    } asked[] = {
+        {!known(code), {3, 0}},
+        {parameter != 0 && !has_parameter(code), {10, 5}},
+        {number != 0 && !has_number(code), {10, 6}},
+        {length != 0 && !has_message(code), {10, 10}},
+        {code == 39 ? parameter > 3 : parameter > 10 || parameter == 6, {11, 5}},
+        {code == 18 && number > 1, {11, 6}},
+        {code == 1 && length < 5, {12, 10}},
+        {1, {0, 0}}
+    };
+    size_t i = 0;
+
+    while (!asked[i].wrong)
+        i++;
+    return asked[i].fault;
+}
+
+/* The link is one too high, so that an event with nothing wrong is refused too, by 5 and whatever
+ * the state. */
 static void fields_are(unsigned code, unsigned parameter, uint32_t number, size_t length)
 {
+    struct fault fault = first_fault(code, parameter, number, length);
+
     put_event(1, code, parameter, number, message, length);
-    STEP(!known(code)                                 ? SSCF_REFUSED_CODE
-         : !carried(code, parameter, number, length) ? SSCF_REFUSED_FIELD
-                                                      : SSCF_REFUSED_LINK);
+    if (fault.refusal == 0)
+        STEP(SSCF_REFUSED_LINK);
+    else
+        STEP_AT(fault.refusal, fault.place);
 }
 
+/* Numbers and lengths with each octet set by itself; some end in the octet of a source. */
+static const uint32_t tried_numbers[] = {0,        1,        2,        0x000100, 0x000101,
+                                         0x010000, 0x010001, 0xffffff};
+static const size_t tried_lengths[] = {0, 1, 3, 4, 5, 256, 4096};
+enum {
+    TRIED_NUMBERS = sizeof tried_numbers / sizeof *tried_numbers,
+    TRIED_LENGTHS = sizeof tried_lengths / sizeof *tried_lengths
+};
+
+/* Every code, with one field at a time set; of a code that is known every parameter. */
 static void broken_fields(void)
 {
-    static const uint32_t numbers[] = {1, 2, 0x000100, 0x010000, 0xffffff};
-    static const size_t lengths[] = {1, 3, 4, 5, 4096};
     unsigned code, i;
 
     set_up(1);
     for (code = 0; code < 256; code++) {
         const size_t least = code == 1 ? 5 : 0;
         turn = code;
-        for (i = 0; i <= 16; i++)
+        for (i = 0; i < 256; i += i < 16 || known(code) ? 1 : 239)
             fields_are(code, i, 0, least);
-        fields_are(code, 255, 0, least);
-        for (i = 0; i < 5; i++) {
-            fields_are(code, 0, numbers[i], least);
-            fields_are(code, 0, 0, lengths[i]);
+        for (i = 0; i < TRIED_NUMBERS; i++)
+            fields_are(code, 0, tried_numbers[i], least);
+        for (i = 0; i < TRIED_LENGTHS; i++)
+            fields_are(code, 0, 0, tried_lengths[i]);
+    }
+}
+
+/* Every code that is known, with the fields set together: the first fault is named. */
+static void broken_fields_together(void)
+{
+    static const uint8_t parameters[] = {0, 1, 2, 3, 4, 5, 6, 7, 8, 9, 10, 11, 0x10, 0x84, 0xff};
+    unsigned code, i, j, k;
+
+    set_up(1);
+    for (code = 0; code < 256; code++)
+        for (i = 0; i < sizeof parameters && known(code); i++)
+            for (j = 0; j < TRIED_NUMBERS; j++)
+                for (k = 0; k < TRIED_LENGTHS; k++) {
+                    turn = 1000 * code + parameters[i];
+                    fields_are(code, parameters[i], tried_numbers[j], tried_lengths[k]);
+                }
+}
+
+/* Events with a fault, each taken by itself from what sscf.h says of 10, 11 and 12. */
+static const struct {
+    uint8_t code, parameter;
+    uint32_t number;
+    uint16_t length;
+    uint8_t refusal, place;
+} faults[] = {
+    /* a field that the code does not carry: whichever octet of it is set, its first is named */
+    {SSCF_EVENT_START, 1, 0, 0, 10, 5},
+    {SSCF_EVENT_START, 0x80, 0, 0, 10, 5},
+    {SSCF_EVENT_START, 0, 0x000001, 0, 10, 6},
+    {SSCF_EVENT_START, 0, 0x000100, 0, 10, 6},
+    {SSCF_EVENT_START, 0, 0x010000, 0, 10, 6},
+    {SSCF_EVENT_START, 0, 0, 1, 10, 10},
+    {SSCF_EVENT_START, 0, 0, 5, 10, 10},
+    {SSCF_EVENT_START, 0, 0, 256, 10, 10},
+    /* of several such fields the first */
+    {SSCF_EVENT_START, 1, 1, 0, 10, 5},
+    {SSCF_EVENT_START, 1, 0, 1, 10, 5},
+    {SSCF_EVENT_START, 0, 1, 1, 10, 6},
+    {SSCF_EVENT_START, 1, 1, 1, 10, 5},
+    /* beside fields that the code does carry, and that are right */
+    {SSCF_EVENT_MESSAGE_FOR_TRANSMISSION, 1, 0, 5, 10, 5},
+    {SSCF_EVENT_MESSAGE_FOR_TRANSMISSION, 0, 1, 5, 10, 6},
+    {SSCF_EVENT_RETRIEVAL_REQUEST_AND_FSNC, 1, 7, 0, 10, 5},
+    {SSCF_EVENT_RETRIEVAL_REQUEST_AND_FSNC, 0, 7, 5, 10, 10},
+    {SSCF_EVENT_ESTABLISH_INDICATION, SSCF_STATUS_NM, 1, 0, 10, 6},
+    {SSCF_EVENT_ESTABLISH_CONFIRM, SSCF_STATUS_NM, 0, 4, 10, 10},
+    {SSCF_EVENT_RELEASE_INDICATION, SSCF_STATUS_OOS, SSCF_SOURCE_SSCOP, 4, 10, 10},
+    {SSCF_EVENT_DATA, SSCF_STATUS_NM, 7, 4, 10, 5},
+    {SSCF_EVENT_UNITDATA, 1, 0, 5, 10, 5},
+    {SSCF_EVENT_UNITDATA, 0, 1, 5, 10, 6},
+    {SSCF_EVENT_RETRIEVE, 1, 1, 5, 10, 5},
+    {SSCF_EVENT_CONGESTION, 3, 1, 0, 10, 6},
+    {SSCF_EVENT_CONGESTION, 3, 0, 1, 10, 10},
+    /* also with a message that would be too short for a user's */
+    {SSCF_EVENT_START, 0, 0, 4, 10, 10},
+    {SSCF_EVENT_T3_EXPIRED, 0, 0, 4, 10, 10},
+    /* a parameter that is no status code, a level above 3 */
+    {SSCF_EVENT_ESTABLISH_INDICATION, 6, 0, 0, 11, 5},
+    {SSCF_EVENT_ESTABLISH_CONFIRM, 11, 0, 0, 11, 5},
+    {SSCF_EVENT_RELEASE_INDICATION, 6, 0, 0, 11, 5},
+    {SSCF_EVENT_RELEASE_INDICATION, 255, 1, 0, 11, 5},
+    {SSCF_EVENT_CONGESTION, 4, 0, 0, 11, 5},
+    /* a source that is none, in each octet */
+    {SSCF_EVENT_RELEASE_INDICATION, 0, 2, 0, 11, 6},
+    {SSCF_EVENT_RELEASE_INDICATION, 0, 256, 0, 11, 6},
+    {SSCF_EVENT_RELEASE_INDICATION, SSCF_STATUS_OOS, 0x000101, 0, 11, 6},
+    {SSCF_EVENT_RELEASE_INDICATION, SSCF_STATUS_OOS, 0x010001, 0, 11, 6},
+    /* of both the first */
+    {SSCF_EVENT_RELEASE_INDICATION, 6, 2, 0, 11, 5},
+    /* 10 goes before 11, also where its field stands behind */
+    {SSCF_EVENT_RELEASE_INDICATION, 6, 0, 4, 10, 10},
+    {SSCF_EVENT_RELEASE_INDICATION, 0, 256, 1, 10, 10},
+    {SSCF_EVENT_RELEASE_INDICATION, 6, 2, 5, 10, 10},
+    {SSCF_EVENT_ESTABLISH_INDICATION, 6, 1, 0, 10, 6},
+    {SSCF_EVENT_ESTABLISH_CONFIRM, 11, 1, 1, 10, 6},
+    {SSCF_EVENT_CONGESTION, 4, 1, 0, 10, 6},
+    {SSCF_EVENT_CONGESTION, 4, 0, 1, 10, 10},
+    /* a message for transmission that the peer would take for a unit, or drop */
+    {SSCF_EVENT_MESSAGE_FOR_TRANSMISSION, 0, 0, 0, 12, 10},
+    {SSCF_EVENT_MESSAGE_FOR_TRANSMISSION, 0, 0, 1, 12, 10},
+    {SSCF_EVENT_MESSAGE_FOR_TRANSMISSION, 0, 0, 4, 12, 10},
+    /* 10 goes before 12 */
+    {SSCF_EVENT_MESSAGE_FOR_TRANSMISSION, 1, 0, 4, 10, 5},
+    {SSCF_EVENT_MESSAGE_FOR_TRANSMISSION, 0, 1, 0, 10, 6},
+    {SSCF_EVENT_MESSAGE_FOR_TRANSMISSION, 1, 1, 4, 10, 5}
+};
+enum { FAULTS = sizeof faults / sizeof *faults };
+
+static void add_fault(unsigned link, size_t i)
+{
+    add_event(link, faults[i].code, faults[i].parameter, faults[i].number, message,
+              faults[i].length);
+}
+
+static void put_fault(unsigned link, size_t i)
+{
+    event_octets = 0;
+    add_fault(link, i);
+    want_nothing();
+}
+
+#define FAULT(i) STEP_AT(faults[i].refusal, faults[i].place)
+
+/* The numbers by their names, and the fields' places by where sscf_host.h has the fields. */
+static void fault_names(void)
+{
+    CHECK(SSCF_REFUSED_NOT_CARRIED == 10);
+    CHECK(SSCF_REFUSED_RANGE == 11);
+    CHECK(SSCF_REFUSED_SHORT == 12);
+    CHECK(SSCF_PLACE_NONE == 0);
+    CHECK(SSCF_PLACE_PARAMETER == 5 && SSCF_HEAD_AT_PARAMETER == 5);
+    CHECK(SSCF_PLACE_NUMBER == 6 && SSCF_HEAD_AT_NUMBER == 6);
+    CHECK(SSCF_PLACE_LENGTH == 10 && SSCF_HEAD_AT_LENGTH == 10);
+    CHECK(SSCF_PLACE_N1 == 14 && SSCF_LINK_AT_N1 == 14);
+}
+
+/* A fault is the event's alone: it does not matter in which state its link is, nor whether its
+ * timers run or its record is sound. */
+static void faults_in_every_state(void)
+{
+    size_t i;
+    unsigned state, timers;
+
+    for (i = 0; i < FAULTS; i++) {
+        for (state = 0; state <= 9; state++)
+            for (timers = 0; timers <= 7; timers += 7) {
+                turn = 1000 * i + 10 * state + timers;
+                set_up(2);
+                put_link(1, state, SSCF_FLAG_INS, timers, 5, 1000);
+                put_fault(1, i);
+                FAULT(i);
+            }
+        set_up(2);
+        memset(now.table, 0, table_octets);
+        put_fault(1, i);
+        FAULT(i);
+    }
+}
+
+/* Nor how long the table is, so long as it is one, whether it has the link, or how much room there
+ * is for signals. */
+static void faults_on_every_table(void)
+{
+    static const unsigned tables[] = {1, 2, SSCF_LINKS_MAX};
+    static const size_t rooms[] = {0, 1, 4191, 4192, sizeof now.out};
+    size_t i, j, k;
+
+    for (i = 0; i < FAULTS; i++)
+        for (j = 0; j < sizeof tables / sizeof *tables; j++)
+            for (k = 0; k < sizeof rooms / sizeof *rooms; k++) {
+                turn = 100 * i + 10 * j + k;
+                set_up(tables[j]);
+                out_octets = rooms[k];
+                put_fault(0, i);
+                FAULT(i);
+                put_fault(tables[j] - 1, i);
+                FAULT(i);
+                put_fault(tables[j], i);
+                FAULT(i);
+                put_fault(0xffff, i);
+                FAULT(i);
+            }
+}
+
+/* A table that is none, a broken frame and an unknown code go before, and name no field. */
+static void faults_behind_others(void)
+{
+    static const size_t tables[] = {0, 15, 17, 4097, 4112};
+    static const uint8_t codes[] = {0, 10, 51, 255};
+    static const struct {
+        uint8_t at, value;   /* an octet of the head to write over */
+        uint8_t fewer, more; /* octets lent than it has */
+    } frames[] = {{0, 'S', 0, 0}, {1, 'G', 0, 0}, {9, 1, 0, 0},
+                  {0, 'E', 1, 0}, {0, 'E', 0, 1}, {10, 0x11, 0, 0}};
+    size_t i, j;
+
+    for (i = 0; i < FAULTS; i++) {
+        for (j = 0; j < sizeof tables / sizeof *tables; j++) {
+            turn = 100 * i + j;
+            set_up(SSCF_LINKS_MAX);
+            table_octets = tables[j];
+            put_fault(0, i);
+            STEP(SSCF_REFUSED_TABLE);
+        }
+        for (j = 0; j < sizeof frames / sizeof *frames; j++) {
+            turn = 100 * i + 10 + j;
+            set_up(1);
+            put_fault(0, i);
+            now.event[frames[j].at] = frames[j].value;
+            event_octets = event_octets + frames[j].more - frames[j].fewer;
+            want_nothing();
+            STEP(SSCF_REFUSED_FRAME);
+        }
+        for (j = 0; j < sizeof codes; j++) {
+            turn = 100 * i + 20 + j;
+            set_up(1);
+            put_fault(0, i);
+            now.event[SSCF_HEAD_AT_CODE] = codes[j];
+            want_nothing();
+            STEP(SSCF_REFUSED_CODE);
         }
     }
-    fields_are(1, 0, 0, 0);
 }
 
 /* Refusal 6, by every value of every octet of a record. */
@@ -826,8 +1099,7 @@ static void states(void)
                     if (refusal != 0)
                         STEP(refusal);
                     else
-                        CHECK(sscf_step(now.table, 16, now.event, event_octets, now.out, out_octets)
-                                  .refusal == SSCF_ACCEPTED);
+                        ACCEPTED();
                 }
 }
 
@@ -944,47 +1216,102 @@ static void crossings(void)
             if (refusal != SSCF_ACCEPTED)
                 STEP(refusal);
             else
-                CHECK(sscf_step(now.table, 16, now.event, event_octets, now.out, out_octets)
-                          .refusal == SSCF_ACCEPTED);
+                ACCEPTED();
             CHECK(now.table[SSCF_LINK_AT_STATE] == runs[run].events[i].state);
         }
     }
 }
 
-/* Several things wrong at once, in each of the 511 ways: the lowest number is answered. */
-static void several_wrong(void)
+/*
+ * Several things wrong at once: the first of sscf.h's list is answered. No one event can have all
+ * of them wrong, so there are three, each wrong in 511 ways: only an expiry has a timer, only a
+ * release of these has fields with a range, and only a user message can be too short.
+ */
+static const struct {
+    uint8_t code, state, timers, length; /* accepted, but for what is wrong */
+    uint8_t not_carried;                 /* the place of a field */
+    uint8_t refusals[9];                 /* in the order of the list */
+} several[] = {
+    {SSCF_EVENT_T3_EXPIRED, SSCF_STATE_2_10_3, SSCF_TIMER_T2 + SSCF_TIMER_T3, 0,
+     SSCF_PLACE_PARAMETER, {1, 2, 3, 10, 5, 6, 7, 8, 9}},
+    {SSCF_EVENT_RELEASE_INDICATION, SSCF_STATE_2_10_3, SSCF_TIMER_T2 + SSCF_TIMER_T3, 0,
+     SSCF_PLACE_LENGTH, {1, 2, 3, 10, 11, 5, 6, 8, 9}},
+    {SSCF_EVENT_MESSAGE_FOR_TRANSMISSION, SSCF_STATE_3_10_5, 0, 5,
+     SSCF_PLACE_NUMBER, {1, 2, 3, 10, 12, 5, 6, 8, 9}}
+};
+
+/* What the message is does not matter. */
+static void set_length(size_t length)
+{
+    sscf_put_16(now.event + SSCF_HEAD_AT_LENGTH, (uint32_t)length);
+    event_octets = SSCF_HEAD_OCTETS + length;
+}
+
+/* Makes the call wrong by one of the numbers, and answers the place that goes with it. */
+static uint32_t make_wrong(unsigned refusal, uint32_t not_carried)
 {
     uint8_t *record = now.table + SSCF_LINK_OCTETS;
-    unsigned wrong, lowest;
 
-    for (wrong = 1; wrong < 1u << 9; wrong++) {
-        turn = wrong;
-        set_up(3);
-        put_link(1, SSCF_STATE_2_10_3, 0, T2 + T3, 5, 1000);
-        put_bare_event(1, SSCF_EVENT_T3_EXPIRED);
-        if (wrong & 1u << 0)
-            table_octets--;
-        if (wrong & 1u << 1)
-            now.event[SSCF_HEAD_AT_ZERO] = 1;
-        if (wrong & 1u << 2)
-            now.event[SSCF_HEAD_AT_CODE] = 51;
-        if (wrong & 1u << 3)
-            now.event[SSCF_HEAD_AT_PARAMETER] = 1;
-        if (wrong & 1u << 4)
-            sscf_put_16(now.event + SSCF_HEAD_AT_LINK, 3);
-        if (wrong & 1u << 5)
-            record[SSCF_LINK_AT_MARK] = 'X';
-        if (wrong & 1u << 6)
-            record[SSCF_LINK_AT_TIMERS] = T2;
-        if (wrong & 1u << 7)
-            record[SSCF_LINK_AT_STATE] = SSCF_STATE_1_1_1;
-        if (wrong & 1u << 8)
-            out_octets = 4191;
-        for (lowest = 1; (wrong >> (lowest - 1) & 1) == 0; lowest++)
-            ;
-        want_nothing();
-        STEP(lowest);
+    switch (refusal) {
+    case 1:
+        table_octets--;
+        return 0;
+    case 2:
+        now.event[SSCF_HEAD_AT_ZERO] = 1;
+        return 0;
+    case 3:
+        now.event[SSCF_HEAD_AT_CODE] = 51;
+        return 0;
+    case 10:
+        if (not_carried == SSCF_PLACE_LENGTH)
+            set_length(4);
+        else
+            now.event[not_carried] = 1;
+        return not_carried;
+    case 11:
+        now.event[SSCF_HEAD_AT_PARAMETER] = 6;
+        return 5;
+    case 12:
+        set_length(4);
+        return 10;
+    case 5:
+        sscf_put_16(now.event + SSCF_HEAD_AT_LINK, 3);
+        return 0;
+    case 6:
+        record[SSCF_LINK_AT_MARK] = 'X';
+        return 0;
+    case 7:
+        record[SSCF_LINK_AT_TIMERS] = T2;
+        return 0;
+    case 8:
+        record[SSCF_LINK_AT_STATE] = SSCF_STATE_1_1_1;
+        return 0;
+    default:
+        out_octets = 4191;
+        return 0;
     }
+}
+
+static void several_wrong(void)
+{
+    unsigned event, wrong, i;
+
+    for (event = 0; event < sizeof several / sizeof *several; event++)
+        for (wrong = 1; wrong < 1u << 9; wrong++) {
+            uint32_t first = 0, place = 0;
+
+            turn = 1000 * event + wrong;
+            set_up(3);
+            put_link(1, several[event].state, 0, several[event].timers, 5, 1000);
+            put_event(1, several[event].code, 0, 0, message, several[event].length);
+            for (i = 9; i-- > 0;) /* from the last, so that what stays is of the first */
+                if (wrong >> i & 1) {
+                    first = several[event].refusals[i];
+                    place = make_wrong(first, several[event].not_carried);
+                }
+            want_nothing();
+            STEP_AT(first, place);
+        }
 }
 
 /*
@@ -1102,7 +1429,8 @@ static void burst_restart(void)
 /* An event that is refused, by each number that there is for one, is passed over. */
 static void burst_refusals(void)
 {
-    unsigned number;
+    static const uint8_t refusals[] = {0, 3, 10, 11, 12, 5, 6, 7, 8, 0};
+    size_t i;
 
     set_up(3);
     out_octets = sizeof now.out;
@@ -1110,6 +1438,8 @@ static void burst_refusals(void)
     add_start(0);
     add_bare_event(1, 51);
     add_event(1, SSCF_EVENT_START, 1, 0, NULL, 0);
+    add_event(1, SSCF_EVENT_RELEASE_INDICATION, 0, 2, NULL, 0);
+    add_event(1, SSCF_EVENT_MESSAGE_FOR_TRANSMISSION, 0, 0, message, 4);
     add_start(3);
     add_start(2);
     add_bare_event(1, SSCF_EVENT_T3_EXPIRED);
@@ -1119,11 +1449,34 @@ static void burst_refusals(void)
     want_nothing();
     want_start(0, 0);
     want_start(1, 0);
-    want_number(0, 0);
-    for (number = 3; number <= 8; number++)
-        want_number(number - 2, number);
-    want_number(7, 0);
-    BURST(0, 0, 8, 8 * 12);
+    for (i = 0; i < sizeof refusals; i++)
+        want_number(i, refusals[i]);
+    BURST(0, 0, 10, 10 * 12 + 4);
+}
+
+/* Each fault between two STARTs: the list has its number alone, and sscf_step tells the place of
+ * the same event afterwards. */
+static void burst_faults(void)
+{
+    size_t i;
+
+    for (i = 0; i < FAULTS; i++) {
+        turn = i;
+        set_up(3);
+        out_octets = sizeof now.out;
+        add_start(0);
+        add_fault(1, i);
+        add_start(2);
+        want_nothing();
+        want_start(0, 0);
+        want_start(2, 0);
+        want_number(0, 0);
+        want_number(1, faults[i].refusal);
+        want_number(2, 0);
+        BURST(0, 0, 3, event_octets);
+        put_fault(1, i);
+        FAULT(i);
+    }
 }
 
 /* Refusal 1, which comes before all else. */
@@ -1356,7 +1709,7 @@ static void bursts_of_one(void)
                 put_link(0, state, 0, T1 + T2 + T3, state & 1, 1);
                 add_event(0, code, 0, 0, message, length);
                 before = now;
-                answer = sscf_step(now.table, 16, now.event, event_octets, now.out, out_octets);
+                answer = step();
                 want_nothing();
                 want_number(0, answer.refusal);
                 want_octets = answer.octets;
@@ -1620,9 +1973,12 @@ int main(void)
         version,       fresh_tables,   fresh_refusals, first_use,     first_use_by_helpers,
         into_service,  one_life,       messages,       timer_orders,  forgets_by_confirm,
         forgets_by_response, haste,
-        broken_lengths, broken_frames, broken_fields,  broken_records, states,
+        broken_lengths, broken_frames, broken_fields,  broken_fields_together,
+        fault_names,   faults_in_every_state, faults_on_every_table, faults_behind_others,
+        broken_records, states,
         crossings,     several_wrong,  burst_of_none,  burst_into_service, burst_restart,
-        burst_refusals, burst_tables,  burst_lists,    burst_list_before_a_broken_frame,
+        burst_refusals, burst_faults,  burst_tables,   burst_lists,
+        burst_list_before_a_broken_frame,
         burst_broken_frames, burst_broken_frames_without_room, burst_without_room, burst_rooms,
         burst_goes_on, bursts_of_one,
         changeovers,    changeover_bits, changeover_widths,
