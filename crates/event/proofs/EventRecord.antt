@@ -87,9 +87,6 @@ by-look e false h p = h
 abbrev Known : List ℕ → ℕ → Type 0
 Known e c = unknown (codedAt c (paramAt e) (numberAt e) (lengthAt e) (arrived (messageOf e))) ≡ false
 
-pub known-at : (e : List ℕ) (c : ℕ) → at e 4 ≡ c → Known e c → Seen e Look.Closer
-known-at e c k u = rw k u
-
 -- by a test which, where it holds, has all fields pass
 seen-at : (e : List ℕ) (c : ℕ) (b : Bool) {r : Look} → at e 4 ≡ c → Known e c → (b ≡ true → first (fieldChecks c (fieldsIn e)) ≡ passed) → r ≡ cond b Look.Fits Look.Closer → Seen e r
 seen-at e c b k u p h = subst (Seen e) (sym h) (by-look e b (rw k u) (λ t. rw k (p t)))
@@ -124,6 +121,30 @@ established-at e c k u f h =
     let y = leb 1 (lengthAt e) in
     let z = not (noneOrStatus (paramAt e)) in
     seen-at e c (not (y || x || z)) k u (λ t. let g = none-of y x z t in f ∙ none-left x y z (Fault.NotCarried 6) (Fault.NotCarried 10) (Fault.OutOfRange 5) (g .1) (g .0) (g .2)) h
+
+-- no number is the far user
+far-user : (n : Num) → not (isZero n) ≡ false → not (isSource n) ≡ false
+far-user n h =
+    let w = not-false (isZero n) h in
+    let c = eqb-true (n .c) 0 (right (eqb (n .a) 0 && eqb (n .b) 0) (eqb (n .c) 0) w) in
+    rw (left (eqb (n .a) 0 && eqb (n .b) 0) (eqb (n .c) 0) w, c)
+
+pub release-at : (e : List ℕ) {r : Look} → at e 4 ≡ RELEASE-indication → r ≡ cond (not (leb 1 (lengthAt e) || not (isZero (numberAt e)) || not (noneOrStatus (paramAt e)))) Look.Fits Look.Closer → Seen e r
+unfolding codedAt notCarried outOfRange
+release-at e k h =
+    let x = leb 1 (lengthAt e) in
+    let y = not (isZero (numberAt e)) in
+    let z = not (noneOrStatus (paramAt e)) in
+    seen-at e RELEASE-indication (not (x || y || z)) k refl
+    (λ t. let g = none-of x y z t in none-left x z (not (isSource (numberAt e))) (Fault.NotCarried 10) (Fault.OutOfRange 5) (Fault.OutOfRange 6) (g .0) (g .2) (far-user (numberAt e) (g .1))) h
+
+pub congestion-at : (e : List ℕ) {r : Look} → at e 4 ≡ CONGESTION → r ≡ cond (not (leb 1 (lengthAt e) || not (isZero (numberAt e)) || not (leb (paramAt e) 3))) Look.Fits Look.Closer → Seen e r
+unfolding codedAt notCarried outOfRange
+congestion-at e k h =
+    let x = leb 1 (lengthAt e) in
+    let y = not (isZero (numberAt e)) in
+    let z = not (leb (paramAt e) 3) in
+    seen-at e CONGESTION (not (x || y || z)) k refl (λ t. let g = none-of x y z t in none-left y x z (Fault.NotCarried 6) (Fault.NotCarried 10) (Fault.OutOfRange 5) (g .1) (g .0) (g .2)) h
 
 pub message-at : (e : List ℕ) {r : Look} → at e 4 ≡ MESSAGE-FOR-TRANSMISSION → r ≡ cond (not (not (isZero (numberAt e)) || leb 1 (paramAt e) || not (leb 5 (lengthAt e)))) Look.Fits Look.Closer → Seen e r
 unfolding codedAt notCarried outOfRange

@@ -336,7 +336,7 @@ fn bare(e: &[u8]) -> Look
     glance(!(lengthy(e) | numbered(e) | (1 <= e[5])))
 }
 
-// Of a code with a status field alone.
+// Of a code with a status field, and no number but 0.
 fn established(e: &[u8]) -> Look
     requires { ⌜ (headOctets ≤ length (now e)) × (headOctets + lengthAt (now e) ≡ length (now e)) ⌝ }
     ensures { λ r. ⌜ r ≡ cond (not (leb 1 (lengthAt (now (e .entry))) || not (isZero (numberAt (now (e .entry)))) || not (noneOrStatus (paramAt (now (e .entry)))))) Look.Fits Look.Closer ⌝ }
@@ -344,7 +344,7 @@ fn established(e: &[u8]) -> Look
     glance(!(lengthy(e) | numbered(e) | bad_field(e[5])))
 }
 
-// The codes, and of all but two of them whether all fits, in one test: so that nothing else is asked, and nothing held meanwhile (D92).
+// The codes, and of each in one test whether all fits: so that nothing else is asked, and nothing held meanwhile (D92). Of releases those by SSCOP are left.
 fn at_once(e: &[u8]) -> Look
     requires { ⌜ (headOctets ≤ length (now e)) × (headOctets + lengthAt (now e) ≡ length (now e)) ⌝ }
     ensures { λ r. ⌜ Seen (now (e .entry)) r ⌝ }
@@ -361,7 +361,7 @@ fn at_once(e: &[u8]) -> Look
         events::CONTINUE => bare(e),
         events::ESTABLISH_INDICATION => established(e),
         events::ESTABLISH_CONFIRM => established(e),
-        events::RELEASE_INDICATION => Look::Closer,
+        events::RELEASE_INDICATION => established(e),
         events::RELEASE_CONFIRM => bare(e),
         events::DATA_INDICATION => glance(!(1 <= e[5])),
         events::RESYNC_INDICATION => bare(e),
@@ -376,7 +376,7 @@ fn at_once(e: &[u8]) -> Look
         events::FORCE_PROVING => bare(e),
         events::FORCE_EMERGENCY => bare(e),
         events::CLEAR_FORCE_MODES => bare(e),
-        events::CONGESTION => Look::Closer,
+        events::CONGESTION => glance(!(lengthy(e) | numbered(e) | !(e[5] <= 3))),
         events::CONGESTION_CEASED => bare(e),
         events::T1_EXPIRED => bare(e),
         events::T2_EXPIRED => bare(e),

@@ -1,5 +1,5 @@
 -- Laws of octets written over others. Assumes nothing.
-use mathlib.Core.Path.{_≡_, sym, ap, _∙_}
+use mathlib.Core.Path.{_≡_, refl, sym, ap, _∙_}
 use mathlib.Core.List.{List, [], _∷_, _++_, append-assoc, append-nil}
 use Prim.Native.Nat.{ℕ, suc, _+_, _-_, _≤_, _<_}
 use native.Mathlib.Nat.{zero-add, suc-add}
@@ -113,6 +113,28 @@ pub put-before : (d s : List ℕ) (a i n : ℕ) → a ≤ length d → i + n ≤
 unfolding putAt
 put-before d s a i n h g =
     front (take a d) (over s (drop a d)) (drop a d) i n (omega (arith, length-take-le a d h)) ∙ ap (λ (l : List ℕ). take n (drop i l)) (take-append-drop a d)
+
+over-is : (s c : List ℕ) → over s c ≡ s ++ drop (length s) c
+unfolding over
+over-is s c = refl
+
+put-is : (c : List ℕ) (j : ℕ) (s : List ℕ) → putAt c j s ≡ take j c ++ (s ++ drop (length s) (drop j c))
+unfolding over putAt
+put-is c j s = refl
+
+-- what is written in front of what was written: both, written at once
+pub put-front : (d x y : List ℕ) (a : ℕ) → a + length x ≤ length d → putAt (putAt d (a + length x) y) a x ≡ putAt d a (x ++ y)
+put-front d x y a h =
+    let k = a + length x in
+    let p = putAt d k y in
+    let e : k + length y ≡ a + length (x ++ y) = omega (arith, length-append x y) in
+    let rest : drop (length x) (drop a p) ≡ y ++ drop (length (x ++ y)) (drop a d) =
+    drop-drop (length x) a p ∙ past d y k h ∙ over-is y (drop k d)
+    ∙ ap (λ (l : List ℕ). y ++ l) (drop-drop (length y) k d ∙ ap (λ (n : ℕ). drop n d) e ∙ sym (drop-drop (length (x ++ y)) a d)) in
+    put-is p a x
+    ∙ (λ i. put-before d y k 0 a h (omega arith) i ++ (x ++ rest i))
+    ∙ ap (λ (l : List ℕ). take a d ++ l) (sym (append-assoc x y (drop (length (x ++ y)) (drop a d))))
+    ∙ sym (put-is d a (x ++ y))
 
 -- and behind it
 pub put-after : (d s : List ℕ) (a i : ℕ) → a ≤ length d → a + length s ≤ i → drop i (putAt d a s) ≡ drop i d

@@ -1,33 +1,36 @@
 -- A record written again and again. Assumes nothing.
 use mathlib.Core.Path.{_≡_, refl, sym, ap, _∙_}
-use mathlib.Core.List.{List, _++_, append-assoc, append-nil}
-use Prim.Native.Nat.{ℕ, zero, suc, _+_, _*_, _/_, _%_, _≤_}
+use mathlib.Core.List.{List, _++_}
+use Prim.Native.Nat.{ℕ, zero, suc, _+_, _-_, _*_, _/_, _%_, _≤_, _<_}
 use native.Mathlib.Omega.{arith}
-use lib.ListN.{length, length-append, drop-of-length-le}
+use lib.ListN.{length, length-append}
 use Rattle.octet.specs.Octets.{over, putAt}
-use Rattle.octet.proofs.Over.{behind}
+use Rattle.octet.proofs.Over.{put-front, put-nothing, over-whole}
 use Rattle.sscf.specs.Fresh.{copies}
 
 pub length-copies : (n : ℕ) (r : List ℕ) → length r ≡ 16 → length (copies n r) ≡ 16 * n
 length-copies zero r h = refl
 length-copies (suc n) r h = length-append r (copies n r) ∙ omega (arith, length-copies n r h)
 
-copies-end : (n : ℕ) (r : List ℕ) → copies n r ++ r ≡ copies (suc n) r
-copies-end zero r = sym (append-nil r)
-copies-end (suc n) r = append-assoc r (copies n r) r ∙ ap (λ (l : List ℕ). r ++ l) (copies-end n r)
+-- from place a to the end of a table
+abbrev pub filled : List ℕ → List ℕ → ℕ → List ℕ
+filled r d a = putAt d a (copies ((length d - a) / 16) r)
 
--- one more, behind those before it
-pub one-copy-more : (r d : List ℕ) (a : ℕ) → length r ≡ 16 → a % 16 ≡ 0 → putAt (over (copies (a / 16) r) d) a r ≡ over (copies ((a + 16) / 16) r) d
-one-copy-more r d a h e =
-    let p : a ≡ length (copies (a / 16) r) = sym (length-copies (a / 16) r h ∙ omega arith) in
-    let q : (a + 16) / 16 ≡ suc (a / 16) = omega arith in
-    ap (λ (j : ℕ). putAt (over (copies (a / 16) r) d) j r) p
-    ∙ behind (copies (a / 16) r) r d
-    ∙ ap (λ (l : List ℕ). over l d) (copies-end (a / 16) r ∙ ap (λ (j : ℕ). copies j r) (sym q))
+-- from the end on nothing
+pub none-yet : (r d : List ℕ) → d ≡ filled r d (length d)
+none-yet r d = let e : 0 ≡ (length d - length d) / 16 = omega arith in sym (put-nothing d (length d)) ∙ ap (λ (n : ℕ). putAt d (length d) (copies n r)) e
 
--- and when the table is full there is nothing else in it
-pub all-copies : (r d : List ℕ) (a : ℕ) → length r ≡ 16 → length d % 16 ≡ 0 → a ≡ length d → over (copies (a / 16) r) d ≡ copies (length d / 16) r
-unfolding over
-all-copies r d a h e f =
-    let w : length d ≤ length (copies (a / 16) r) = omega (arith, length-copies (a / 16) r h) in
-    ap (λ (l : List ℕ). copies (a / 16) r ++ l) (drop-of-length-le d w) ∙ append-nil (copies (a / 16) r) ∙ ap (λ (j : ℕ). copies (j / 16) r) f
+-- one more, in front of those behind it
+pub one-copy-more : (r d : List ℕ) (a : ℕ) → length r ≡ 16 → length d % 16 ≡ 0 → a % 16 ≡ 0 → 0 < a → a ≤ length d → putAt (filled r d a) (a - 16) r ≡ filled r d (a - 16)
+one-copy-more r d a h e f z g =
+    let n = (length d - a) / 16 in
+    let b = a - 16 in
+    let k : a ≡ b + length r = omega arith in
+    let m : suc n ≡ (length d - b) / 16 = omega arith in
+    ap (λ (j : ℕ). putAt (putAt d j (copies n r)) b r) k ∙ put-front d r (copies n r) b (omega arith) ∙ ap (λ (j : ℕ). putAt d b (copies j r)) m
+
+-- and at its beginning there is nothing else in it
+pub all-copies : (r d : List ℕ) → length r ≡ 16 → length d % 16 ≡ 0 → filled r d 0 ≡ copies (length d / 16) r
+unfolding putAt
+all-copies r d h e = let n : length d / 16 ≡ (length d - 0) / 16 = omega arith in
+    ap (λ (j : ℕ). over (copies j r) d) (sym n) ∙ over-whole (copies (length d / 16) r) d (omega (arith, length-copies (length d / 16) r h))

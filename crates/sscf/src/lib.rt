@@ -89,15 +89,15 @@ pub extern "C" fn sscf_burst(
     burst::run(table, events, out, refusals)
 }
 
-// Writes a record over all of a table, as often as it has place.
+// Writes a record over all of a table, as often as it has place, from its end on: so the compiler leaves the loop as it is (D92).
 fn fill(table: &mut [u8], r: &[u8])
     requires { ⌜ (length (now table) % recordOctets ≡ 0) × (length (now r) ≡ recordOctets) ⌝ }
     ensures { λ _. ⌜ now (table .exit) ≡ copies (records (now (table .entry))) (now (r .entry)) ⌝ }
 {
-    let mut at = 0;
-    while at < table.len() {
+    let mut at = table.len();
+    while 0 < at {
+        at -= RECORD;
         put_at(table, at, r);
-        at += RECORD;
     }
 }
 

@@ -2,13 +2,13 @@
 use mathlib.Core.Path.{refl, ap}
 use borrow.Author.Needs.{needs}
 use Rattle.table6.specs.EventCodes.{EMERGENCY, EMERGENCY-CEASES, STOP, START, RETRIEVE-BSNT, FLUSH-BUFFERS, CONTINUE}
-use Rattle.table6.specs.EventCodes.{ESTABLISH-indication, ESTABLISH-confirm, RELEASE-indication, RELEASE-confirm, RESYNC-indication, RECOVER-indication}
+use Rattle.table6.specs.EventCodes.{ESTABLISH-indication, ESTABLISH-confirm, RELEASE-confirm, RESYNC-indication, RECOVER-indication}
 use Rattle.table6.specs.EventCodes.{UNITDATA-indication, RETRIEVE-indication, RETRIEVE-COMPLETE-indication}
-use Rattle.table6.specs.EventCodes.{PROVING-UNSUCCESSFUL, RELEASE, OUTAGE, RECOVERED, FORCE-PROVING, FORCE-EMERGENCY, CLEAR-FORCE-MODES, CONGESTION, CONGESTION-CEASED}
+use Rattle.table6.specs.EventCodes.{PROVING-UNSUCCESSFUL, RELEASE, OUTAGE, RECOVERED, FORCE-PROVING, FORCE-EMERGENCY, CLEAR-FORCE-MODES, CONGESTION-CEASED}
 use Rattle.table6.specs.EventCodes.{T1-expired, T2-expired, T3-expired}
 use Rattle.event.specs.Fields.{notCarried, outOfRange}
 use Rattle.event.specs.EventRecord.{codedAt, unknown}
-use Rattle.event.proofs.EventRecord.{no-more, known-at, bare-at, established-at, message-at, retrieval-at, unnumbered-at, data-at}
+use Rattle.event.proofs.EventRecord.{no-more, bare-at, established-at, release-at, congestion-at, message-at, retrieval-at, unnumbered-at, data-at}
 use Rattle.event.proofs.at_once.Statement.{statement}
 use Rattle.event.proofs.at_once.Tie as tie
 
@@ -62,6 +62,9 @@ established-requires c κs = search needs
 
 established-requires-2 : tie.Need-established-requires-2
 established-requires-2 c κs = search needs
+
+established-requires-3 : tie.Need-established-requires-3
+established-requires-3 c κs = search needs
 
 bare-requires-8 : tie.Need-bare-requires-8
 bare-requires-8 c κs = search needs
@@ -120,6 +123,18 @@ bare-requires-17 c κs = search needs
 bare-requires-18 : tie.Need-bare-requires-18
 bare-requires-18 c κs = search needs
 
+lengthy-requires-2 : tie.Need-lengthy-requires-2
+lengthy-requires-2 c κs = search needs
+
+numbered-requires-4 : tie.Need-numbered-requires-4
+numbered-requires-4 c κs = search needs
+
+shared-slice-read-glance-6 : tie.Need-shared-slice-read-glance-6
+shared-slice-read-glance-6 c = search needs
+
+glance-requires-6 : tie.Need-glance-requires-6
+glance-requires-6 c κs = search needs
+
 bare-requires-19 : tie.Need-bare-requires-19
 bare-requires-19 c κs = search needs
 
@@ -175,8 +190,7 @@ unfolding codedAt notCarried outOfRange
 returns-11 c = established-at (c .before .before .before .before .args .e .now) ESTABLISH-confirm (c .before .match .keys11) refl refl (c .established2 .ensures)
 
 returns-12 : tie.Need-returns-12
-unfolding codedAt
-returns-12 c = known-at (c .before .before .before .args .e .now) RELEASE-indication (c .match .keys12) refl
+returns-12 c = release-at (c .before .before .before .before .args .e .now) (c .before .match .keys12) (c .established3 .ensures)
 
 returns-13 : tie.Need-returns-13
 unfolding codedAt notCarried outOfRange
@@ -234,8 +248,7 @@ unfolding codedAt notCarried outOfRange
 returns-26 c = bare-at (c .before .before .before .before .args .e .now) CLEAR-FORCE-MODES (c .before .match .keys26) refl refl (c .bare18 .ensures)
 
 returns-27 : tie.Need-returns-27
-unfolding codedAt
-returns-27 c = known-at (c .before .before .before .args .e .now) CONGESTION (c .match .keys27) refl
+returns-27 c = congestion-at (c .before .before .before .before .before .before .before .args .e .now) {r = c .glance6 .result} (c .before .before .before .before .match .keys27) (rw (← c .before .before .before .lengthy2 .ensures, ← c .before .before .numbered4 .ensures) (c .glance6 .ensures))
 
 returns-28 : tie.Need-returns-28
 unfolding codedAt notCarried outOfRange
@@ -278,6 +291,7 @@ at-once-spec =
     bare-requires-7
     established-requires
     established-requires-2
+    established-requires-3
     bare-requires-8
     shared-slice-read-glance-3
     glance-requires-3
@@ -297,6 +311,10 @@ at-once-spec =
     bare-requires-16
     bare-requires-17
     bare-requires-18
+    lengthy-requires-2
+    numbered-requires-4
+    shared-slice-read-glance-6
+    glance-requires-6
     bare-requires-19
     bare-requires-20
     bare-requires-21
