@@ -10,7 +10,7 @@ use lib.ListN.{length, take, drop, getD, length-append, length-drop, take-append
 use lib.Seq.{take-length, drop-length, take-append-le, drop-append-le, drop-append-add, drop-drop}
 use borrow.Author.Tests.{le-ltb, eqb-true, eqb-false}
 use Rattle.unit.specs.Checks.{Verdict, passed, refused, first}
-use Rattle.unit.proofs.Checks.{onward, first-by}
+use Rattle.unit.proofs.Checks.{onward}
 use Rattle.octet.specs.Octets.{at, two, over}
 use Rattle.octet.proofs.Over.{length-over, over-front, over-rest}
 use Rattle.link.specs.Step as machine
@@ -29,7 +29,7 @@ use Rattle.step.specs.Step.{badTable, records, recordAt, idle, isIllegal, linkF
 use Rattle.sscf.specs.Burst.{written, left, Single, singly, eventsOf, numbersOf, writtenBy, signalsBy, tableAfter, BurstOutcome, bursting, burstAnswered, burstChecks, brokenAt, came, burstCall}
 use Rattle.sscf.specs.BurstLaws.{BurstRefusalsUntouched, BurstUntouched, BurstRestUntouched, NamedByNone, BurstOthersUntouched, OneEvent, Stops, StopsOnly, NoEvents, AlwaysRoom, AlwaysPlace, endToEnd, Events, then, together, SplitInTwo, BrokenStands, BrokenRefused, AskedBefore}
 use Rattle.step.proofs.Untouched.{number-above, same-lengths, rest-untouched, others-untouched, at-most-4192, at-most-twelvefold}
-use Rattle.step.proofs.Taken.{step-refused}
+use Rattle.step.proofs.Taken.{field-checks, step-refused}
 use Rattle.sscf.proofs.Singles.{no-frame, a-frame, front-long, found, found-one, few-frames, written-length, output-is, no-room, single, one-more, each-call, events-and, written-and, numbers-and, signals-and, table-and, numbers-length, sound-there, as-good}
 use Rattle.sscf.proofs.BurstCall.{burst-refused, burst-passed, Open, both, either-burst}
 
@@ -450,7 +450,7 @@ between false passed false false false false = tt
 mid : (t e : List ℕ) (room : ℕ) → badTable t ≡ false → framed e ≡ true → 4192 ≤ room → Mid (first (checks t e room))
 mid t e room a b c =
     rw (a, b)
-    (subst (λ (v : Verdict Refusal). Mid (cond (unknown (codedIn e)) (refused Refusal.Code) v)) (sym (first-by Refusal.Field (fieldChecks (codeAt e) (fieldsIn e)) (drop 9 (checks t e room))))
+    (subst (λ (v : Verdict Refusal). Mid (cond (unknown (codedIn e)) (refused Refusal.Code) v)) (sym (field-checks t e room))
     (rw (le-ltb room 4192 c)
     (between (unknown (codedIn e)) (first (fieldChecks (codeAt e) (fieldsIn e))) (leb (records t) (linkAt e)) (not (wellFormed (recordAt t (linkAt e)))) (idle (linkFor t e) (codeAt e))
     (isIllegal (machine.stepOf (linkFor t e) (eventOf e))))))

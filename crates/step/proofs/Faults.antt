@@ -9,7 +9,7 @@ use lib.Dec.{eqb, leb, ltb}
 use lib.ListN.{length, drop}
 use borrow.Author.Tests.{eqb-true}
 use Rattle.unit.specs.Checks.{Check, Verdict, passed, refused, first}
-use Rattle.unit.proofs.Checks.{clear, onward, first-by, given}
+use Rattle.unit.proofs.Checks.{clear, onward, given}
 use Rattle.link.specs.declared.Num.{Num}
 use Rattle.link.specs.Step as machine
 use Rattle.record.specs.LinkRecord.{wellFormed}
@@ -23,7 +23,7 @@ use Rattle.step.specs.declared.Refusal.{Refusal}
 use Rattle.step.specs.Checks.{number, place}
 use Rattle.step.specs.Step.{badTable, records, recordAt, idle, isIllegal, linkFor, checks, outputOctets, Outcome, stepCall}
 use Rattle.step.specs.Faults.{NumberAndPlace, PlaceWithNumber, atFault, EachField, FirstAtFault, FieldNamed, OfTheEvent, formerChecks, formerNumber, with4, SameRefusals}
-use Rattle.step.proofs.Taken.{step-refused, step-accepted}
+use Rattle.step.proofs.Taken.{field-checks, step-refused, step-accepted}
 
 -- THE ANSWER BY THE VERDICT
 
@@ -189,13 +189,13 @@ module _ (t e : List ℕ) (room : ℕ) where
   by-field h =
       by-tests (badTable t) (not (framed e)) (unknown (codedIn e)) (first (fieldChecks (codeAt e) (fieldsIn e))) refl refl refl refl
       (subst (λ (v : Verdict Refusal). 10 ≤ numberIn (cond (badTable t) (refused Refusal.Table) (cond (not (framed e)) (refused Refusal.Frame) (cond (unknown (codedIn e)) (refused Refusal.Code) v))))
-      (first-by Refusal.Field (fieldChecks (codeAt e) (fieldsIn e)) behind) h)
+      (field-checks t e room) h)
 
   -- and so on every good table
   field-refuses : badTable t ≡ false → (f : ByField e) → first (checks t e room) ≡ refused (Refusal.Field (f .fault))
   field-refuses g f =
       rw (g, f .sound, f .known)
-      (first-by Refusal.Field (fieldChecks (codeAt e) (fieldsIn e)) behind ∙ ap (λ (w : Verdict Fault). onward Refusal.Field w (first behind)) (f .gives))
+      (field-checks t e room ∙ ap (λ (w : Verdict Fault). onward Refusal.Field w (first behind)) (f .gives))
 
 module _ (t e o : List ℕ) (h : 10 ≤ stepCall t e o .answer .refusal) where
   field-of : (badTable t ≡ false) × ByField e
@@ -262,5 +262,5 @@ same-refusals t e o =
     before (badTable t) (not (framed e)) (unknown (codedIn e)) (first (drop 3 (formerChecks t e room))) (first (drop 3 (checks t e room)))
     (here (misfit (codeAt e) (paramAt e) (numberAt e) (lengthAt e)) (first (fieldChecks (codeAt e) (fieldsIn e))) (first (drop 4 (formerChecks t e room))) (first (drop 9 (checks t e room))) (s .0) (s .1)
     (after (leb (records t) (linkAt e)) (not (wellFormed (recordAt t (linkAt e)))) (idle (linkFor t e) (codeAt e)) (isIllegal (machine.stepOf (linkFor t e) (eventOf e))) (ltb room outputOctets))
-    ∙ ap (λ (v : Verdict Refusal). with4 (numberIn v)) (sym (first-by Refusal.Field (fieldChecks (codeAt e) (fieldsIn e)) (drop 9 (checks t e room)))))
+    ∙ ap (λ (v : Verdict Refusal). with4 (numberIn v)) (sym (field-checks t e room)))
     ∙ ap with4 (sym (tells t e o (first (checks t e room)) refl .0))

@@ -4,10 +4,10 @@ use mathlib.Core.Bool.{true}
 use mathlib.Core.List.{List}
 use Prim.Native.Nat.{ℕ, _*_, _≤_, _<_}
 use native.Mathlib.Omega.{arith}
-use lib.ListN.{length}
+use lib.ListN.{length, drop}
 use borrow.Author.Tests.{ltb-false, leb-false, not-false}
 use Rattle.unit.specs.Checks.{passed, refused, first}
-use Rattle.unit.proofs.Checks.{clear}
+use Rattle.unit.proofs.Checks.{clear, onward, first-by}
 use Rattle.link.specs.declared.Link.{Link}
 use Rattle.link.specs.declared.Signal.{Signal}
 use Rattle.link.specs.Step as machine
@@ -15,13 +15,19 @@ use Rattle.link.specs.Kept.{Keeps, After}
 use Rattle.link.proofs.Kept.{kept}
 use Rattle.octet.specs.Octets.{over, putAt}
 use Rattle.record.specs.LinkRecord.{octetsOf}
-use Rattle.event.specs.Frame.{EV, linkAt, messageOf}
-use Rattle.event.specs.EventRecord.{framed, eventOf}
+use Rattle.event.specs.Frame.{EV, linkAt, codeAt, messageOf}
+use Rattle.event.specs.Fields.{fieldChecks}
+use Rattle.event.specs.EventRecord.{framed, eventOf, fieldsIn}
 use Rattle.signal.specs.SignalRecord.{joined}
 use Rattle.event.proofs.Frame.{sound, message-length}
 use Rattle.signal.proofs.SignalRecord.{joined-small}
 use Rattle.step.specs.declared.Refusal.{Refusal}
 use Rattle.step.specs.Step.{records, linkFor, checks, answered, answering, refusedBy, stepCall}
+
+-- past the code the fields decide, and where they pass the checks behind them
+pub field-checks : (t e : List ℕ) (room : ℕ) →
+    first (drop 3 (checks t e room)) ≡ onward Refusal.Field (first (fieldChecks (codeAt e) (fieldsIn e))) (first (drop 9 (checks t e room)))
+field-checks t e room = first-by Refusal.Field (fieldChecks (codeAt e) (fieldsIn e)) (drop 9 (checks t e room))
 
 pub record Taken (t e : List ℕ) (room : ℕ) : Type 0 where
   pub sound : framed e ≡ true

@@ -5,7 +5,7 @@ use Prim.Native.Nat.{ℕ}
 use lib.ListN.{drop}
 use borrow.Author.Needs.{needs}
 use Rattle.unit.specs.Checks.{Check, Verdict, first}
-use Rattle.unit.proofs.Checks.{onward, first-by}
+use Rattle.unit.proofs.Checks.{onward}
 use Rattle.event.specs.declared.Fault.{Fault}
 use Rattle.event.specs.declared.Reading.{Reading}
 use Rattle.event.specs.Frame.{EV, codeAt}
@@ -17,14 +17,13 @@ use Rattle.step.specs.declared.checks.Plan.{Plan}
 use Rattle.step.specs.declared.Refusal.{Refusal}
 use Rattle.step.specs.Step.{checks}
 use Rattle.step.specs.Plan.{Planned}
+use Rattle.step.proofs.Taken.{field-checks}
 use Rattle.step.proofs.checks.planned.Statement.{statement}
 use Rattle.step.proofs.checks.planned.Tie as tie
 
--- the checks of the fields, and those behind them
-pub field-checks : (t e : List ℕ) (room : ℕ) {v : Verdict Fault} → first (fieldChecks (codeAt e) (fieldsIn e)) ≡ v →
-    first (drop 3 (checks t e room)) ≡ onward Refusal.Field v (first (drop 9 (checks t e room)))
-field-checks t e room h =
-    first-by Refusal.Field (fieldChecks (codeAt e) (fieldsIn e)) (drop 9 (checks t e room)) ∙ ap (λ (w : Verdict Fault). onward Refusal.Field w (first (drop 9 (checks t e room)))) h
+-- by what the fields came to
+decided : (t e : List ℕ) (room : ℕ) {v : Verdict Fault} → first (fieldChecks (codeAt e) (fieldsIn e)) ≡ v → first (drop 3 (checks t e room)) ≡ onward Refusal.Field v (first (drop 9 (checks t e room)))
+decided t e room h = field-checks t e room ∙ ap (λ (w : Verdict Fault). onward Refusal.Field w (first (drop 9 (checks t e room)))) h
 
 -- past some checks those that are left decide
 left : (cs ds : List (Check Refusal)) (t e : List ℕ) (r : Plan) → first cs ≡ first ds → Planned ds t e r → Planned cs t e r
@@ -65,14 +64,14 @@ returns-3 : tie.Need-returns-3
 returns-3 c =
     let a = c .before .before .before .before .before .before .args in
     let h = told (c .before .before .before) _ (c .before .fault .given .1) in
-    rw (h .0, h .1) (field-checks (a .t .now) (a .e .now) (a .room) (h .2))
+    rw (h .0, h .1) (decided (a .t .now) (a .e .now) (a .room) (h .2))
 
 returns-4 : tie.Need-returns-4
 returns-4 c =
     let a = c .before .before .before .before .before .before .args in
     let h = told (c .before .before .before) Reading.Fits (c .before .enum-told3 .given .1) in
     let cs = checks (a .t .now) (a .e .now) (a .room) in
-    left (drop 1 cs) (drop 9 cs) (a .t .now) (a .e .now) (c .link-plan .result) (rw (h .0, h .1) (field-checks (a .t .now) (a .e .now) (a .room) (h .2))) (c .link-plan .ensures)
+    left (drop 1 cs) (drop 9 cs) (a .t .now) (a .e .now) (c .link-plan .result) (rw (h .0, h .1) (decided (a .t .now) (a .e .now) (a .room) (h .2))) (c .link-plan .ensures)
 
 pub planned-spec : {M : Type 1} → statement M
 planned-spec =
