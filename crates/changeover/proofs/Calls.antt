@@ -8,13 +8,13 @@ use mathlib.Core.List.{List, [], _∷_}
 use lib.Dec.{eqb, ltb}
 use lib.ListN.{length, drop}
 use borrow.Author.Tests.{eq-eqb, ne-eqb, lt-ltb, le-ltb, eqb-true, ltb-false, not-false}
-use Rattle.unit.specs.Checks.{Check, Verdict, passed, refused, first}
-use Rattle.unit.proofs.Checks.{clear}
+use Rattle.unit.specs.Checks.{Verdict, passed, refused, first, numberOf}
+use Rattle.unit.proofs.Checks.{clear, none-refuses, refusing}
 use Rattle.octet.proofs.Branches.{neither, either}
 use Rattle.changeover.specs.declared.Changeover.{Changeover}
 use Rattle.changeover.specs.Figure3.{octetsOf, messageOf}
 use Rattle.changeover.specs.Calls.{XCO, XCA, messageOctets, tooWide, checks, writing, writeCall, answered, nothing, readCall}
-use Rattle.changeover.specs.Checked.{numberOf, tooWideBehind}
+use Rattle.changeover.specs.Checked.{tooWideBehind}
 use Rattle.changeover.proofs.Figure3.{Fits}
 
 -- the verdict on a message for nine octets
@@ -54,19 +54,7 @@ pub one-not : (ssf si : ℕ) → 15 < ssf + si * 256 → not (eqb si 0) || ltb 1
 one-not ssf zero h = lt-ltb 15 ssf (omega arith)
 one-not ssf (suc si) h = rw (ne-eqb (suc si) 0 (omega arith))
 
--- no check has the number 0, so where that is answered none refuses
-abbrev Numbered : List (Check ℕ) → Type 0
-Numbered [] = Unit {0}
-Numbered (c ∷ cs) = (1 ≤ c .refusal) × Numbered cs
-
-by-test : (b : Bool) (k : ℕ) (v : Verdict ℕ) → 1 ≤ k → (numberOf v ≡ 0 → v ≡ passed) → numberOf (cond b (refused k) v) ≡ 0 → cond b (refused k) v ≡ passed
-by-test true k v n f h = absurd (omega arith)
-by-test false k v n f h = f h
-
-none-refuses : (cs : List (Check ℕ)) → Numbered cs → numberOf (first cs) ≡ 0 → first cs ≡ passed
-none-refuses [] n h = refl
-none-refuses (c ∷ cs) n h = by-test (c .holds) (c .refusal) (first cs) (n .0) (none-refuses cs (n .1)) h
-
+-- where 0 is answered none refuses
 pub passes : (m : Changeover) → numberOf (onMessage m) ≡ 0 → onMessage m ≡ passed
 passes m h = none-refuses (drop 1 (checks messageOctets m)) (omega arith, (omega arith, (omega arith, tt))) h
 
@@ -105,10 +93,6 @@ nine n m e = rw (eq-eqb n messageOctets e)
 
 other : (n : ℕ) (m : Changeover) → (n ≡ messageOctets → ⊥) → first (checks n m) ≡ refused 1
 other n m e = rw (ne-eqb n messageOctets e)
-
-refusing : (v : Verdict ℕ) (n : ℕ) → n ≡ numberOf v → (n ≡ 0 → ⊥) → v ≡ refused n
-refusing passed n e z = absurd (z e)
-refusing (refused k) n e z = ap refused (sym e)
 
 -- WRITING
 pub write-length : (o : List ℕ) (m : Changeover) → (length o ≡ messageOctets → ⊥) → writing 1 o ≡ writeCall o m

@@ -8,14 +8,14 @@ use mathlib.Core.List.{List, [], _∷_}
 use lib.Dec.{eqb}
 use lib.ListN.{length}
 use borrow.Author.Tests.{eq-eqb, eqb-true, le-ltb}
-use Rattle.unit.specs.Checks.{Verdict, passed, refused, first}
+use Rattle.unit.specs.Checks.{Verdict, passed, refused, first, numberOf}
 use Rattle.octet.specs.Octets.{Octets, at}
 use Rattle.octet.proofs.Octets.{octet-at, listing, listed}
 use Rattle.changeover.specs.declared.Changeover.{Changeover}
 use Rattle.changeover.specs.declared.Answer.{Answer}
 use Rattle.changeover.specs.Figure3.{octetsOf, messageOf}
 use Rattle.changeover.specs.Calls.{messageOctets, XCO, XCA, checks, writing, Written, written, writeCall, answered, nothing, read, readCall}
-use Rattle.changeover.specs.Checked.{numberOf, lowFirst}
+use Rattle.changeover.specs.Checked.{lowFirst}
 use Rattle.changeover.specs.Laws.{Reread, Rewritten, RefusedUntouched, RefusedEmpty, EveryRead, NeverWide}
 use Rattle.changeover.proofs.Figure3.{Fits, label, packed, low-part, octets-length, taken, unpacked, held-ssf, held-si, held-dpc, held-opc, held-slc, held-heading, held-number}
 use Rattle.changeover.proofs.Calls.{onMessage, fits, write-accepted, read-accepted}

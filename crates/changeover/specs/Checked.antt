@@ -2,13 +2,7 @@
 use Prim.Native.Nat.{ℕ, _+_, _*_}
 use mathlib.Core.Bool.{Bool, _||_}
 use lib.Dec.{ltb}
-use Rattle.unit.specs.Checks.{Verdict, passed, refused}
 use Rattle.changeover.specs.declared.Changeover.{Changeover}
-
--- The refusal, or 0.
-abbrev pub numberOf : Verdict ℕ → ℕ
-numberOf passed = 0
-numberOf (refused n) = n
 
 -- Of the fields, those behind octet 1.
 abbrev pub tooWideBehind : Changeover → Bool

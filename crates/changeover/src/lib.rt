@@ -5,10 +5,10 @@ ghost use mathlib.Core.Path.{_≡_};
 ghost use mathlib.Core.Bool.{_||_};
 ghost use lib.Dec.{eqb};
 ghost use lib.ListN.{length, drop};
-ghost use Rattle.unit.specs.Checks.{first};
+ghost use Rattle.unit.specs.Checks.{first, numberOf};
 ghost use Rattle.changeover.specs.Figure3.{octetsOf, messageOf};
 ghost use Rattle.changeover.specs.Calls.{XCO, XCA, messageOctets, tooWide, checks, answered, nothing, writing, writeCall, readCall};
-ghost use Rattle.changeover.specs.Checked.{numberOf, tooWideBehind, lowFirst};
+ghost use Rattle.changeover.specs.Checked.{tooWideBehind, lowFirst};
 
 // The octets of a message.
 const MESSAGE: usize = 9;

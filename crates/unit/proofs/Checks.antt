@@ -1,8 +1,10 @@
 -- What a verdict tells of its checks. Assumes nothing.
-use mathlib.Core.Path.{_≡_, refl, subst}
+use Prim.Native.Nat.{ℕ, _≤_}
+use native.Mathlib.Omega.{arith}
+use mathlib.Core.Path.{_≡_, refl, sym, ap, subst}
 use mathlib.Core.Bool.{Bool, true, false, cond, not, true≢false}
 use mathlib.Core.List.{List, [], _∷_, _++_, map}
-use Rattle.unit.specs.Checks.{Check, Verdict, passed, refused, first, by}
+use Rattle.unit.specs.Checks.{Check, Verdict, passed, refused, first, by, numberOf}
 
 -- no test of a list that is passed holds
 abbrev pub Clear : {R : Type 0} → List (Check R) → Type 0
@@ -61,3 +63,15 @@ each-given P (c ∷ cs) h = this-given P (c .holds) (c .refusal) (first cs) (h .
 
 pub given : {R : Type 0} (P : R → Type 0) (cs : List (Check R)) {r : R} → Every P cs → first cs ≡ refused r → P r
 given P cs h e = subst (Given P) e (each-given P cs h)
+
+-- REFUSALS THAT ARE NUMBERS: where 0 is answered none refuses, since no check has that number; and any other number is the refusal's
+passes : (v : Verdict ℕ) → Given (λ (k : ℕ). 1 ≤ k) v → numberOf v ≡ 0 → v ≡ passed
+passes passed g h = refl
+passes (refused k) g h = absurd (omega arith)
+
+pub none-refuses : (cs : List (Check ℕ)) → Every (λ (k : ℕ). 1 ≤ k) cs → numberOf (first cs) ≡ 0 → first cs ≡ passed
+none-refuses cs n h = passes (first cs) (each-given (λ (k : ℕ). 1 ≤ k) cs n) h
+
+pub refusing : (v : Verdict ℕ) (n : ℕ) → n ≡ numberOf v → (n ≡ 0 → ⊥) → v ≡ refused n
+refusing passed n e z = absurd (z e)
+refusing (refused k) n e z = ap refused (sym e)

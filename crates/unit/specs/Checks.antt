@@ -1,4 +1,5 @@
 -- Checks in order, each with its refusal: the first that holds refuses.
+use Prim.Native.Nat.{ℕ}
 use mathlib.Core.Bool.{Bool, cond}
 use mathlib.Core.List.{List, [], _∷_}
 
@@ -22,3 +23,8 @@ first (c ∷ others) = cond (c .holds) (refused (c .refusal)) (first others)
 -- The same test, with a refusal made of its own.
 abbrev pub by : {R S : Type 0} → (R → S) → Check R → Check S
 by f c = f (c .refusal) if c .holds
+
+-- How a verdict is answered where refusals are numbers: by its number, or 0.
+abbrev pub numberOf : Verdict ℕ → ℕ
+numberOf passed = 0
+numberOf (refused n) = n

@@ -6,7 +6,7 @@ use borrow.Author.Needs.{needs}
 use Rattle.changeover.specs.declared.Changeover.{Changeover}
 use Rattle.changeover.specs.Figure3.{messageOf}
 use Rattle.changeover.specs.Calls.{answered}
-use Rattle.changeover.specs.Checked.{numberOf}
+use Rattle.unit.specs.Checks.{numberOf}
 use Rattle.changeover.proofs.Calls.{onMessage, read-length, read-refused, read-accepted}
 use Rattle.changeover.proofs.sscf_changeover_read.Statement.{statement}
 use Rattle.changeover.proofs.sscf_changeover_read.Tie as tie

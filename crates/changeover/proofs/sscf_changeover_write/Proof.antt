@@ -10,7 +10,7 @@ use Rattle.octet.specs.Octets.{over}
 use Rattle.octet.proofs.Over.{over-whole}
 use Rattle.changeover.specs.Figure3.{octetsOf}
 use Rattle.changeover.specs.Calls.{writing}
-use Rattle.changeover.specs.Checked.{numberOf}
+use Rattle.unit.specs.Checks.{numberOf}
 use Rattle.changeover.proofs.Figure3.{octets-length}
 use Rattle.changeover.proofs.Calls.{onMessage, write-length, write-refused, write-accepted}
 use Rattle.changeover.proofs.sscf_changeover_write.Statement.{statement}
