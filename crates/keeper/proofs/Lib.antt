@@ -1,0 +1,9 @@
+pub mod Places
+pub mod Search
+pub mod Calls
+pub mod Orders
+pub mod Lists
+pub mod Due
+pub mod OneAnswer
+pub mod Laws
+pub mod Rounds
