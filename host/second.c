@@ -1,8 +1,8 @@
 /*
  * The second machine: the step and the fresh table, written by cases from the printed Table 6 of
- * Q.2140, and the changeover messages, written from figure 3 of Q.2210, so that the library has
- * something independent to be compared with and a yardstick for its speed. It shares no table,
- * constant or line with the library.
+ * Q.2140, the changeover messages, written from figure 3 of Q.2210, and the deadlines, written from
+ * request 2026-06 and Table 5 of Q.2140, so that the library has something independent to be
+ * compared with and a yardstick for its speed. It shares no table, constant or line with the library.
  */
 #include "second.h"
 
@@ -1129,4 +1129,149 @@ struct second_changeover_answer second_changeover_read(const uint8_t *octets, si
     answer.message.heading = octets[HEADING];
     answer.message.number = (uint32_t)(rest >> NUMBER_AT);
     return answer;
+}
+
+/* Deadlines: T1, T2 and T3 of link 0, of link 1 and so on, then the last time given. */
+
+enum { TIMERS_PER_LINK = 3, MOST_LINKS = 256 };
+
+/* In milliseconds: T1 and T2 by Table 5, and the bounds of what the caller may choose for T3. */
+enum { T1_PERIOD = 5000, T2_PERIOD = 30000, SHORTEST_T3_PERIOD = 1, LONGEST_T3_PERIOD = 60000 };
+
+/* The deadline of a timer that does not run, and never one of a timer that does. */
+static const uint64_t idle = UINT64_MAX;
+
+/* The links go first: they keep the product from passing the end of a size_t. */
+static bool bad_counts(size_t count, size_t links)
+{
+    return links < 1 || links > MOST_LINKS || count != TIMERS_PER_LINK * links + 1;
+}
+
+static bool bad_periods(const uint64_t *periods, size_t links)
+{
+    size_t at;
+
+    for (at = 0; at < links; at++)
+        if (periods[at] < SHORTEST_T3_PERIOD || periods[at] > LONGEST_T3_PERIOD)
+            return true;
+    return false;
+}
+
+/* 1 or 2, which are the first refusals of an order and of a question alike, or 0. */
+static uint32_t bad_lists(size_t count, const uint64_t *periods, size_t links)
+{
+    return bad_counts(count, links) ? 1 : bad_periods(periods, links) ? 2 : 0;
+}
+
+static bool is_set_order(unsigned code)
+{
+    return code >= SET_T1 && code <= SET_T3;
+}
+
+static bool is_reset_order(unsigned code)
+{
+    return code >= RESET_T1 && code <= RESET_T3;
+}
+
+uint32_t second_deadlines_fresh(uint64_t *deadlines, size_t count)
+{
+    size_t at;
+
+    if (bad_counts(count, count / TIMERS_PER_LINK))
+        return 1;
+    for (at = 0; at < count - 1; at++)
+        deadlines[at] = idle;
+    deadlines[count - 1] = 0;
+    return 0;
+}
+
+uint32_t second_deadlines_order(uint64_t *deadlines, size_t count,
+                                const uint64_t *periods, size_t links,
+                                uint16_t link, uint8_t code, uint64_t time)
+{
+    uint32_t refusal = bad_lists(count, periods, links);
+    uint64_t *timers;
+
+    if (refusal != 0)
+        return refusal;
+    if (link >= links || !(is_set_order(code) || is_reset_order(code)))
+        return 3;
+    if (time < deadlines[count - 1])
+        return 4;
+    timers = deadlines + TIMERS_PER_LINK * (size_t)link;
+    if (is_set_order(code)) {
+        uint64_t period = code == SET_T1 ? T1_PERIOD : code == SET_T2 ? T2_PERIOD : periods[link];
+
+        /* The sum may pass 64 bits; what is left up to all ones does not. */
+        if (period >= idle - time)
+            return 5;
+        timers[code - SET_T1] = time + period;
+    } else {
+        timers[code - RESET_T1] = idle;
+    }
+    deadlines[count - 1] = time;
+    return 0;
+}
+
+/* A timer by its place in the list. */
+struct timer {
+    uint64_t deadline;
+    size_t at;
+};
+
+static struct timer timer_at(const uint64_t *deadlines, size_t at)
+{
+    struct timer timer = { deadlines[at], at };
+
+    return timer;
+}
+
+/* Of equals the one at the lower place, which is the lower link or of one link the lower timer. */
+static struct timer earlier(struct timer lower, struct timer higher)
+{
+    return higher.deadline < lower.deadline ? higher : lower;
+}
+
+/* One link's earliest, without regard to the links before: only one comparison a link waits for them. */
+static struct timer earliest_of_link(const uint64_t *deadlines, size_t at)
+{
+    return earlier(earlier(timer_at(deadlines, at), timer_at(deadlines, at + 1)), timer_at(deadlines, at + 2));
+}
+
+/* Where the timer to name stands, or the count of the timers if none is due. */
+static size_t first_due(const uint64_t *deadlines, size_t timers, uint64_t time)
+{
+    /* Due is what is below this: at or before the time, but never all ones. */
+    struct timer first = { time < idle ? time + 1 : idle, timers };
+    size_t at;
+
+    for (at = 0; at < timers; at += TIMERS_PER_LINK)
+        first = earlier(first, earliest_of_link(deadlines, at));
+    return first.at;
+}
+
+static struct second_due_answer due_answer(uint32_t refusal, uint32_t expired, uint32_t link)
+{
+    struct second_due_answer answer = { refusal, expired, link };
+
+    return answer;
+}
+
+struct second_due_answer second_deadlines_due(uint64_t *deadlines, size_t count,
+                                              const uint64_t *periods, size_t links, uint64_t time)
+{
+    uint32_t refusal = bad_lists(count, periods, links);
+    size_t timers = count - 1, first;
+
+    if (refusal != 0)
+        return due_answer(refusal, 0, 0);
+    if (time < deadlines[timers])
+        return due_answer(4, 0, 0);
+    deadlines[timers] = time;
+    first = first_due(deadlines, timers, time);
+    if (first == timers)
+        return due_answer(0, 0, 0);
+    deadlines[first] = idle;
+    return due_answer(0, (uint32_t)(T1_EXPIRED + first % TIMERS_PER_LINK),
+                      (uint32_t)(first / TIMERS_PER_LINK));
 }

@@ -70,4 +70,36 @@ uint32_t second_changeover_write(uint8_t *out, size_t out_octets, struct second_
 /* Reads the nine octets of a message; refuses by 1 to 3. */
 struct second_changeover_answer second_changeover_read(const uint8_t *octets, size_t count);
 
+/*
+ * What the question for a timer that is due answers: the number of the refusal, or 0; the code of
+ * the event to hand in, 48 to 50 for T1 to T3, or 0 if nothing is due; and the link to hand it in
+ * for, 0 with a refusal and if nothing is due.
+ */
+struct second_due_answer {
+    uint32_t refusal, expired, link;
+};
+
+/*
+ * Makes a list of 3n + 1 deadlines, n from 1 to 256, in which no timer runs and the last time is 0;
+ * answers 0, or 1 for another count and leaves the list alone.
+ */
+uint32_t second_deadlines_fresh(uint64_t *deadlines, size_t count);
+
+/*
+ * Sets or resets one timer of one link, by the code of a step's timer order, 48 to 50 or 56 to 58,
+ * and makes the time the last one; answers 0, or 1 to 5 and leaves the list alone. The periods are
+ * those of T3, one for each link. The lists are valid for their counts and do not overlap.
+ */
+uint32_t second_deadlines_order(uint64_t *deadlines, size_t count,
+                                const uint64_t *periods, size_t links,
+                                uint16_t link, uint8_t code, uint64_t time);
+
+/*
+ * Names the timer that is due first, ties by lower link and then lower timer, marks it not running
+ * and makes the time the last one, also if nothing is due. Refuses by 1, 2 or 4 and leaves the list
+ * alone. The lists are valid for their counts and do not overlap.
+ */
+struct second_due_answer second_deadlines_due(uint64_t *deadlines, size_t count,
+                                              const uint64_t *periods, size_t links, uint64_t time);
+
 #endif
