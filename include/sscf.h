@@ -13,8 +13,10 @@
  *     sscf_burst    takes many events at once, as at a restart: what sscf_step would do of each,
  *                   one after the other, in one call
  *
- * A fourth, sscf_version, tells the version. For the layer above there are two more, which know of
- * no table: sscf_changeover_write and sscf_changeover_read, at the end of this header.
+ * A fourth, sscf_version, tells the version. There are tools beside them, which know of no table:
+ * sscf_changeover_write and sscf_changeover_read for the layer above (CHANGEOVER MESSAGES, below),
+ * and sscf_deadlines_fresh, sscf_deadlines_order and sscf_deadlines_due, which keep the deadlines
+ * of the timers for a host that has a clock (DEADLINES, at the end of this header).
  *
  * The host hands in as an event whatever the link's user, SSCOP, layer management or a timer has
  * to say, and hands the signals on to those they are for. SSCOP itself, the clocks, the monitoring
@@ -26,9 +28,9 @@
  * one copy alone goes on, the latest, whole. What the calls promise, beside each of them below, is
  * proved of the code, for every table, every event and every message.
  *
- * Of the C library it needs memmove and nothing else; a later version may also need memcpy, memset,
- * memcmp or bcmp. A step or a burst takes at most 256 octets of stack, memmove's own not counted,
- * the other calls their return address alone.
+ * Of the C library it needs memmove, and for DEADLINES memset; a later version may also need
+ * memcpy, memcmp or bcmp. A step or a burst takes at most 256 octets of stack, a call of DEADLINES
+ * at most 24, without what memmove and memset take; the others take their return address alone.
  *
  * HOW A LINK COMES INTO SERVICE
  *
@@ -104,11 +106,11 @@
  *
  * - It hands on every signal, in the order written. An event that arises on the way waits until
  *   the last signal has been handed on.
- * - It runs the timers. A set order starts a timer afresh, also where it runs already; a reset
- *   order stops it. When a timer runs out the host hands in its expiry, which ends the timer's
- *   running by itself. An expiry that comes after its timer was reset is refused, does no harm and
- *   can be dropped; one from before a reset must not be handed in after the next set, since nothing
- *   tells the two apart.
+ * - It runs the timers, by itself or with the calls of DEADLINES, at the end of this header. A set
+ *   order starts a timer afresh, also where it runs already; a reset order stops it. When a timer
+ *   runs out the host hands in its expiry, which ends the timer's running by itself. An expiry that
+ *   comes after its timer was reset is refused, does no harm and can be dropped; one from before a
+ *   reset must not be handed in after the next set, since nothing tells the two apart.
  * - What SSCOP said before a RELEASE_REQUEST reached it is not handed in after the next
  *   ESTABLISH_REQUEST, by START or by T1. In state 4 an ESTABLISH_CONFIRM or RELEASE_INDICATION of
  *   the connection before would be taken for one of the present connection. A host with a queue
@@ -139,6 +141,9 @@ extern "C" {
 #endif
 
 /*
+ * 0.6.0 has the calls of DEADLINES, and nothing else is altered: a host of 0.5.0 has nothing to
+ * change.
+ *
  * 0.5.0 tells which field of an event was wrong. What a host of 0.4.0 has to change:
  *
  * - sscf_fresh answers a struct sscf_fresh_answer and no longer a number: compare its `refusal`.
@@ -156,8 +161,8 @@ extern "C" {
  * has written is taken as it is: there BSNT may be older than the latest connection, until the next
  * DATA is accepted or the next connection comes up.
  */
-#define SSCF_VERSION "0.5.0"
-#define SSCF_VERSION_NUMBER 5000 /* 1,000,000 x 0 + 1,000 x 5 + 0 */
+#define SSCF_VERSION "0.6.0"
+#define SSCF_VERSION_NUMBER 6000 /* 1,000,000 x 0 + 1,000 x 6 + 0 */
 
 /* LIMITS */
 
@@ -784,6 +789,156 @@ uint32_t sscf_changeover_write(uint8_t *out, size_t out_octets, struct sscf_chan
  * indicator of 0 are a message. The octets are only read.
  */
 struct sscf_changeover_answer sscf_changeover_read(const uint8_t *octets, size_t count);
+
+/*
+ * DEADLINES
+ *
+ * A step orders timers set and reset, and a host with a timer wheel of its own follows the orders
+ * there. Or it leaves that to these three calls, and has only to know the time: they keep for every
+ * link when T1, T2 and T3 are due, in a list that is the host's, follow an order at a time, and
+ * name what is due at a time, one timer for each call. Times are milliseconds of a clock that never
+ * goes back, counted from any moment: CLOCK_MONOTONIC will do.
+ *
+ * The list has 3n + 1 numbers for n links, 1 to 256:
+ *
+ *      3 x link      the deadline of T1, or SSCF_NOT_RUNNING
+ *      3 x link + 1  the deadline of T2, or SSCF_NOT_RUNNING
+ *      3 x link + 2  the deadline of T3, or SSCF_NOT_RUNNING
+ *      3 x n         the last time given
+ *
+ * A timer that is set is due its period after the time of the order, whether it ran already or not:
+ * T1 after 5 seconds and T2 after 30, by Q.2140's Table 5. T3 has a period for each link, in a list
+ * of n numbers, 1 to 60,000, which the host may alter between calls; what runs keeps its deadline.
+ * A timer is due when its deadline is at or before the time.
+ *
+ * What is left to the host:
+ *
+ * - the clock, and waking up. The least number of the list but the last is the time at which to ask
+ *   next, SSCF_NOT_RUNNING for none: sscf_next_deadline of sscf_host.h finds it. A timer that is
+ *   set runs from the time given with its order, not from when it should have been named. So
+ *   whatever the host wakes up late is added to each T3, and all of proving must still fit into T2.
+ * - to follow every timer order of an accepted step or burst, resets too, in the order written. One
+ *   time read for a turn will do for all that the host does in it.
+ * - to hand in at once, before any other event, what was named: it is marked not running here with
+ *   the answer, and in the record with the expiry's own step. An expiry that is kept back may be
+ *   that of a timer that was stopped and set anew meanwhile, and nothing tells the two apart.
+ * - to ask until nothing is due, whether events that came of the expiries are stepped in between or
+ *   behind. Asked again and again at one time, with no order between, every timer that is due is
+ *   named exactly once: the earliest deadline first, of equal ones the lower link's, and of one
+ *   link's T1 before T2 before T3. What an order sets meanwhile is due later than its time.
+ * - to look at the refusals. A question that is refused answers no expiry, as if nothing were due.
+ * - to keep the list beside its table: both are made fresh together, and a copy of one goes with a
+ *   copy of the other. The calls believe the deadlines that they find.
+ *
+ * A host of four links, with sscf_host.h. Its clock, time_now, is in milliseconds, and wait_until,
+ * hand_on_signals and give_up are its own too. follow goes behind every step that is accepted:
+ *
+ *     uint64_t deadlines[SSCF_DEADLINES(4)], periods[4] = {13, 13, 13, 13};
+ *
+ *     void follow(struct sscf_answer answer, uint64_t time)
+ *     {
+ *         const uint8_t *signal;
+ *         uint32_t refusal;
+ *
+ *         for (signal = sscf_first_signal(out, answer); signal != NULL;
+ *              signal = sscf_next_signal(out, answer, signal)) {
+ *             if (signal[4] < SSCF_SIGNAL_SET_T1)
+ *                 continue;
+ *             refusal = sscf_deadlines_order(deadlines, SSCF_DEADLINES(4), periods, 4, signal[3],
+ *                                            signal[4], time);
+ *             if (refusal != SSCF_ACCEPTED)
+ *                 give_up(sscf_deadlines_refusal_name(refusal));
+ *         }
+ *     }
+ *
+ *     void ask(uint64_t time)
+ *     {
+ *         struct sscf_due_answer due;
+ *         uint8_t expiry[SSCF_HEAD_OCTETS];
+ *         struct sscf_answer answer;
+ *
+ *         while ((due = sscf_deadlines_due(deadlines, SSCF_DEADLINES(4), periods, 4, time))
+ *                    .expired != 0) {
+ *             sscf_put_bare_event(expiry, sizeof expiry, due.link, due.expired);
+ *             answer = sscf_step(table, sizeof table, expiry, sizeof expiry, out, sizeof out);
+ *             follow(answer, time);
+ *             hand_on_signals(answer);
+ *         }
+ *         if (due.refusal != SSCF_ACCEPTED)
+ *             give_up(sscf_deadlines_refusal_name(due.refusal));
+ *     }
+ *
+ *     void run(void)
+ *     {
+ *         uint64_t next;
+ *
+ *         while ((next = sscf_next_deadline(deadlines, SSCF_DEADLINES(4))) != SSCF_NOT_RUNNING) {
+ *             wait_until(next);
+ *             ask(time_now());
+ *         }
+ *     }
+ *
+ * Before all this, sscf_deadlines_fresh(deadlines, SSCF_DEADLINES(4)). examples/clock.c of the
+ * sources is a whole host with a real clock.
+ *
+ * The calls keep nothing. A program that makes no other call links nothing else of the library. As
+ * with a step, each pointer is good for as many numbers as the count beside it says and aligned for
+ * them, the deadlines for writing too; the two lists do not overlap, nobody else touches them
+ * during a call, and where the lists are refused neither is read, so that any pointer will do. What
+ * is said here of the answers and of the list is proved of the code, for all numbers in both lists.
+ */
+
+/* The numbers of a list of deadlines, by the number of links. */
+#define SSCF_DEADLINES(links) (3 * (links) + 1)
+
+/* All ones, for a deadline: the timer does not run. It is never due, also at this time. */
+#define SSCF_NOT_RUNNING (~(uint64_t)0)
+
+/* The longest period of a T3, in milliseconds. */
+#define SSCF_PERIOD_MAX 60000
+
+/*
+ * The refusals of these calls, which are not those of a step: each is given exactly where it is
+ * listed, and where several things are wrong the lowest number is answered. A refusal changes
+ * nothing. sscf_deadlines_refusal_name of sscf_host.h has them as strings.
+ */
+enum sscf_deadlines_refusal {
+    SSCF_DEADLINES_REFUSED_LISTS = 1,   /* not 3n + 1 deadlines and n periods, n from 1 to 256 */
+    SSCF_DEADLINES_REFUSED_PERIOD = 2,  /* a period, of any link, is 0 or above 60,000 */
+    SSCF_DEADLINES_REFUSED_ORDER = 3,   /* an order only: no such link, or no timer order's code */
+    SSCF_DEADLINES_REFUSED_TIME = 4,    /* the time is before the last one given */
+    SSCF_DEADLINES_REFUSED_DEADLINE = 5 /* a set order only: it would be due at 2^64 - 1 or later */
+};
+
+/*
+ * Makes a list in which no timer runs, with a last time of 0, and answers SSCF_ACCEPTED. Answers
+ * SSCF_DEADLINES_REFUSED_LISTS where the count is not 3n + 1 for an n from 1 to 256.
+ */
+uint32_t sscf_deadlines_fresh(uint64_t *deadlines, size_t count);
+
+/*
+ * Follows a timer order for a link at a time: the code is that of a signal, SSCF_SIGNAL_SET_T1 to
+ * SSCF_SIGNAL_RESET_T3. Answers SSCF_ACCEPTED; that timer's deadline and the last time given are
+ * then new, and all other numbers as they were. A reset of a timer that does not run is accepted.
+ */
+uint32_t sscf_deadlines_order(uint64_t *deadlines, size_t count, const uint64_t *periods,
+                              size_t links, uint16_t link, uint8_t code, uint64_t time);
+
+/* What is due. */
+struct sscf_due_answer {
+    uint32_t refusal; /* SSCF_ACCEPTED or SSCF_DEADLINES_REFUSED_LISTS, _PERIOD or _TIME */
+    uint32_t expired; /* SSCF_EVENT_T1_EXPIRED to SSCF_EVENT_T3_EXPIRED, the event to hand in; 0 if
+                         nothing is due or refused */
+    uint32_t link;    /* the link to hand it in for; 0 if nothing is due or refused */
+};
+
+/*
+ * Names the earliest timer that is due at a time and marks it not running, or says that none is
+ * due, which it says exactly if none is. Either way the time is then the last one given, and all
+ * other numbers are as they were.
+ */
+struct sscf_due_answer sscf_deadlines_due(uint64_t *deadlines, size_t count,
+                                          const uint64_t *periods, size_t links, uint64_t time);
 
 #ifdef __cplusplus
 }

@@ -2,9 +2,9 @@
  * sscf_host.h: small help for a host of sscf.h, which is the manual.
  *
  * The places of a record's fields by name, a link's state, events written, signals taken one by
- * one, and every code as a string. All of it is inline, in C99 and in C++: there is nothing to
- * link, nothing is allocated or kept, and of the C library only memmove is called. The library does
- * not need it, and nothing here is part of what is proved.
+ * one, the next deadline, and every code as a string. All of it is inline, in C99 and in C++: there
+ * is nothing to link, nothing is allocated or kept, and of the C library only memmove is called.
+ * The library does not need it, and nothing here is part of what is proved.
  *
  *     uint8_t event[SSCF_HEAD_OCTETS];
  *     size_t octets = sscf_put_bare_event(event, sizeof event, 2, SSCF_EVENT_START);
@@ -165,6 +165,23 @@ static inline const uint8_t *sscf_next_signal(const uint8_t *out, struct sscf_an
                                               const uint8_t *signal)
 {
     return sscf_next_record(out, answer.octets, signal);
+}
+
+/*
+ * DEADLINES
+ *
+ * The earliest of a list, when to ask next what is due; SSCF_NOT_RUNNING if no timer runs. The last
+ * number, the last time given, is none of them.
+ */
+static inline uint64_t sscf_next_deadline(const uint64_t *deadlines, size_t count)
+{
+    uint64_t next = SSCF_NOT_RUNNING;
+    size_t n;
+
+    for (n = 0; n + 1 < count; n++)
+        if (deadlines[n] < next)
+            next = deadlines[n];
+    return next;
 }
 
 /*
@@ -377,6 +394,21 @@ static inline const char *sscf_changeover_refusal_name(uint32_t refusal)
     case SSCF_CHANGEOVER_REFUSED_HEADING: return "bad heading";
     case SSCF_CHANGEOVER_REFUSED_SERVICE: return "bad service indicator";
     case SSCF_CHANGEOVER_REFUSED_FIELD: return "field too wide";
+    default: return "?";
+    }
+}
+
+/* Of deadlines, whose three calls have refusals of their own. */
+
+static inline const char *sscf_deadlines_refusal_name(uint32_t refusal)
+{
+    switch (refusal) {
+    case SSCF_ACCEPTED: return "accepted";
+    case SSCF_DEADLINES_REFUSED_LISTS: return "bad lists";
+    case SSCF_DEADLINES_REFUSED_PERIOD: return "period out of range";
+    case SSCF_DEADLINES_REFUSED_ORDER: return "unknown link or order";
+    case SSCF_DEADLINES_REFUSED_TIME: return "time before the last";
+    case SSCF_DEADLINES_REFUSED_DEADLINE: return "deadline too late";
     default: return "?";
     }
 }
