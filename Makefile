@@ -1,5 +1,5 @@
-## make              set-up, proof and library, first results to look at, a short story's trace and chart among them, and two C programs over the
-##                   library: a host to copy, and the test of conformance
+## make              set-up, proof and library, first results to look at, a short story's trace and chart among them, and three C programs over the
+##                   library: a host to copy, one with a real clock, and the test of conformance
 ## make library      set-up, proof and library alone
 ## make test         the gate: ends with 'N passed, 0 failed'
 ## make bench        what a call costs against a second machine, in instructions and, on x86-64, in time
@@ -36,6 +36,7 @@ look: library
 
 example: library
 	host/run examples/host.c
+	host/run examples/clock.c
 	host/run host/conformance.c
 
 # Made anew where a crate is newer, so that no old archive is installed or measured.
