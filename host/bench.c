@@ -29,12 +29,16 @@ struct sscf_burst_answer empty_burst(uint8_t *table, size_t table_octets,
                                      uint32_t *refusals, size_t refusals_count);
 uint32_t empty_write(uint8_t *out, size_t out_octets, struct sscf_changeover message);
 struct sscf_changeover_answer empty_read(const uint8_t *octets, size_t count);
+uint32_t empty_order(uint64_t *deadlines, size_t count, const uint64_t *periods, size_t links,
+                     uint16_t link, uint8_t code, uint64_t time);
+struct sscf_due_answer empty_due(uint64_t *deadlines, size_t count, const uint64_t *periods,
+                                 size_t links, uint64_t time);
 
 /*
  * What is called: sscf_step, sscf_burst, sscf_step for each event of a burst, sscf_changeover_write
- * or sscf_changeover_read.
+ * or sscf_changeover_read, sscf_deadlines_order or sscf_deadlines_due.
  */
-enum { STEP, BURST, SINGLES, WRITE, READ, CALLS };
+enum { STEP, BURST, SINGLES, WRITE, READ, TIMER_ORDER, DUE, CALLS };
 
 /*
  * The cases of a step: a link, an event for it, and the answer that shows that it is the case
@@ -136,8 +140,34 @@ static const struct changeover_case changeovers[] = {
 enum { CHANGEOVERS = sizeof changeovers / sizeof *changeovers };
 
 /*
+ * The cases of the deadlines, each a row: a list of 256 links whose timers all run, so many of them
+ * due, and an order for one link or the question what is due. Their deadlines are all different, in
+ * no order.
+ */
+
+enum { TIMERS = 3 * SSCF_LINKS_MAX, ALL_TIMERS = TIMERS + 1 };
+
+struct deadlines_case {
+    const char *title;
+    unsigned call; /* TIMER_ORDER or DUE */
+    unsigned due;  /* timers */
+    uint8_t code;  /* of the order, or of the event that is answered, 0 if nothing is due */
+    uint16_t link;
+};
+
+static const struct deadlines_case keepers[] = {
+    {"T3 of one link of 256 set", TIMER_ORDER, 0, SSCF_SIGNAL_SET_T3, 200},
+    {"T2 of one link of 256 reset", TIMER_ORDER, 0, SSCF_SIGNAL_RESET_T2, 200},
+    {"what is due of 768 timers: nothing", DUE, 0, 0, 0},
+    {"what is due of 768 timers: one", DUE, 1, SSCF_EVENT_T2_EXPIRED, 200},
+    {"what is due of 768 timers: all of them", DUE, TIMERS, SSCF_EVENT_T2_EXPIRED, 200},
+};
+
+enum { KEEPERS = sizeof keepers / sizeof *keepers };
+
+/*
  * The rows: each case of a step that is one alone, behind them all that are mixed, then a burst and
- * its single calls, and then the changeover calls. The mixed kinds are counted and timed over the
+ * its single calls, the changeover calls, and the deadlines. The mixed kinds are counted and timed over the
  * whole of their order. Of equal calls fewer are enough, and the shorter a stretch the likelier
  * that a busy machine leaves it in peace.
  */
@@ -153,7 +183,8 @@ enum { TABLES = sizeof tables / sizeof *tables };
 struct row {
     unsigned call;
     const struct bench_case *kinds[CASES];    /* of a step */
-    const struct changeover_case *changeover; /* of another call */
+    const struct changeover_case *changeover; /* of a changeover call */
+    const struct deadlines_case *keeper;      /* of deadlines */
     unsigned many;                            /* kinds */
     unsigned events;                          /* that a call takes, 1 but for a burst */
     unsigned tables;                          /* that it is counted on, the last ones */
@@ -161,12 +192,12 @@ struct row {
     double least[MACHINES];                   /* nanoseconds of a call */
 };
 
-static struct row rows[CASES + 1 + 2 + CHANGEOVERS];
+static struct row rows[CASES + 1 + 2 + CHANGEOVERS + KEEPERS];
 static size_t rows_made;
 
 /*
  * The mixed kinds, which are many calls for a slow counter, are counted on the large table only. A
- * burst has that one, and a changeover call none.
+ * burst has that one, and the calls behind it none.
  */
 static void make_rows(void)
 {
@@ -191,6 +222,12 @@ static void make_rows(void)
     for (i = 0; i < CHANGEOVERS; i++) {
         struct row alone = {.call = changeovers[i].call, .changeover = &changeovers[i], .many = 1,
                             .events = 1, .tables = 1, .counted = COUNTED, .timed = TIMED};
+
+        rows[rows_made++] = alone;
+    }
+    for (i = 0; i < KEEPERS; i++) {
+        struct row alone = {.call = keepers[i].call, .keeper = &keepers[i], .many = 1,
+                            .events = 1, .tables = 1, .counted = COUNTED, .timed = TIMED / 8};
 
         rows[rows_made++] = alone;
     }
@@ -404,6 +441,62 @@ static int read_agreed(void)
 }
 
 /*
+ * The deadlines of a row. The earliest is that of the case, and it is put back before every call,
+ * as the one number that a call alters beside the last time; the others lie 1 to 767 behind it.
+ */
+
+static const struct deadlines_case *keeper;
+static uint64_t deadlines[ALL_TIMERS], periods[SSCF_LINKS_MAX];
+
+enum { TIME = 1000000, EARLIEST = TIMERS * 200 / SSCF_LINKS_MAX + 1 }; /* of link 200, T2 */
+
+static void set_up_deadlines(const struct deadlines_case *new_keeper)
+{
+    unsigned n, after;
+
+    keeper = new_keeper;
+    for (n = 0; n < SSCF_LINKS_MAX; n++)
+        periods[n] = 1 + n;
+    for (n = 0; n < TIMERS; n++) {
+        after = (n + TIMERS - EARLIEST) * 331 % TIMERS; /* each from 0 to 767 once */
+        deadlines[n] = TIME + 1 + after - keeper->due;
+    }
+    deadlines[TIMERS] = TIME;
+}
+
+static uint64_t *put_back(void)
+{
+    deadlines[EARLIEST] = TIME + 1 - keeper->due;
+    return deadlines;
+}
+
+static int order_agreed(void)
+{
+    static uint64_t second[ALL_TIMERS];
+
+    memcpy(second, put_back(), sizeof second);
+    return sscf_deadlines_order(deadlines, ALL_TIMERS, periods, SSCF_LINKS_MAX, keeper->link,
+                                keeper->code, TIME) == SSCF_ACCEPTED &&
+           second_deadlines_order(second, ALL_TIMERS, periods, SSCF_LINKS_MAX, keeper->link,
+                                  keeper->code, TIME) == SSCF_ACCEPTED &&
+           memcmp(deadlines, second, sizeof second) == 0;
+}
+
+static int due_agreed(void)
+{
+    static uint64_t second[ALL_TIMERS];
+    struct sscf_due_answer a;
+    struct second_due_answer b;
+
+    memcpy(second, put_back(), sizeof second);
+    a = sscf_deadlines_due(deadlines, ALL_TIMERS, periods, SSCF_LINKS_MAX, TIME);
+    b = second_deadlines_due(second, ALL_TIMERS, periods, SSCF_LINKS_MAX, TIME);
+    return a.refusal == SSCF_ACCEPTED && a.expired == keeper->code && a.link == keeper->link &&
+           b.refusal == SSCF_ACCEPTED && b.expired == keeper->code && b.link == keeper->link &&
+           memcmp(deadlines, second, sizeof second) == 0;
+}
+
+/*
  * The loop of the calls, one and the same for each machine, written three times for each call since
  * the machines answer by different types. It stands between two marks, and the pointers to it are
  * volatile, so that the compiler cannot make one loop for few calls and another for many: what the
@@ -490,6 +583,25 @@ static int read_agreed(void)
     }                                                                                          \
     TURNS(name, name##_turn)
 
+#define TIMER_ORDERS(name, order)                                                              \
+    static inline uint32_t name##_turn(unsigned call)                                          \
+    {                                                                                          \
+        (void)call;                                                                            \
+        return order(put_back(), ALL_TIMERS, periods, SSCF_LINKS_MAX, keeper->link,            \
+                     keeper->code, TIME);                                                      \
+    }                                                                                          \
+    TURNS(name, name##_turn)
+
+#define QUESTIONS(name, type, due)                                                             \
+    static inline uint32_t name##_turn(unsigned call)                                          \
+    {                                                                                          \
+        type answer = due(put_back(), ALL_TIMERS, periods, SSCF_LINKS_MAX, TIME);              \
+                                                                                               \
+        (void)call;                                                                            \
+        return answer.refusal + answer.expired + answer.link;                                  \
+    }                                                                                          \
+    TURNS(name, name##_turn)
+
 STEPS(empty_steps, struct sscf_answer, empty_step)
 STEPS(our_steps, struct sscf_answer, sscf_step)
 STEPS(second_steps, struct second_answer, second_step)
@@ -505,6 +617,12 @@ WRITES(second_writes, struct second_changeover, second_changeover_write)
 READS(empty_reads, struct sscf_changeover_answer, empty_read)
 READS(our_reads, struct sscf_changeover_answer, sscf_changeover_read)
 READS(second_reads, struct second_changeover_answer, second_changeover_read)
+TIMER_ORDERS(empty_orders, empty_order)
+TIMER_ORDERS(our_orders, sscf_deadlines_order)
+TIMER_ORDERS(second_orders, second_deadlines_order)
+QUESTIONS(empty_questions, struct sscf_due_answer, empty_due)
+QUESTIONS(our_questions, struct sscf_due_answer, sscf_deadlines_due)
+QUESTIONS(second_questions, struct second_due_answer, second_deadlines_due)
 
 static uint32_t (*volatile machines[CALLS][MACHINES])(unsigned) = {
     {empty_steps, our_steps, second_steps},
@@ -512,6 +630,8 @@ static uint32_t (*volatile machines[CALLS][MACHINES])(unsigned) = {
     {empty_singles, our_singles, second_singles},
     {empty_writes, our_writes, second_writes},
     {empty_reads, our_reads, second_reads},
+    {empty_orders, our_orders, second_orders},
+    {empty_questions, our_questions, second_questions},
 };
 
 /* Check, count, time. */
@@ -522,6 +642,8 @@ static void set_up(const struct row *row, unsigned links)
         set_up_steps(row, links);
     else if (row->call == BURST || row->call == SINGLES)
         set_up_burst();
+    else if (row->call == TIMER_ORDER || row->call == DUE)
+        set_up_deadlines(row->keeper);
     else
         changeover = row->changeover;
 }
@@ -555,6 +677,8 @@ static int agreed(const struct row *row, unsigned call)
         return step_agreed(row, call);
     if (row->call == BURST || row->call == SINGLES)
         return burst_agreed(row->call);
+    if (row->call == TIMER_ORDER || row->call == DUE)
+        return row->call == DUE ? due_agreed() : order_agreed();
     return row->call == WRITE ? write_agreed() : read_agreed();
 }
 
@@ -564,7 +688,9 @@ static const char *title(const struct row *row, unsigned call)
         return row->kinds[order[call]]->title;
     if (row->call == BURST)
         return "a burst of 100 events";
-    return row->call == SINGLES ? "its 100 single calls" : row->changeover->title;
+    if (row->call == SINGLES)
+        return "its 100 single calls";
+    return row->keeper != NULL ? row->keeper->title : row->changeover->title;
 }
 
 /*

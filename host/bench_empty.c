@@ -15,6 +15,10 @@ struct sscf_burst_answer empty_burst(uint8_t *table, size_t table_octets,
                                      uint32_t *refusals, size_t refusals_count);
 uint32_t empty_write(uint8_t *out, size_t out_octets, struct sscf_changeover message);
 struct sscf_changeover_answer empty_read(const uint8_t *octets, size_t count);
+uint32_t empty_order(uint64_t *deadlines, size_t count, const uint64_t *periods, size_t links,
+                     uint16_t link, uint8_t code, uint64_t time);
+struct sscf_due_answer empty_due(uint64_t *deadlines, size_t count, const uint64_t *periods,
+                                 size_t links, uint64_t time);
 
 void bench_mark(void)
 {
@@ -53,5 +57,21 @@ struct sscf_changeover_answer empty_read(const uint8_t *octets, size_t count)
     struct sscf_changeover_answer nothing = {SSCF_ACCEPTED, {0, 0, 0, 0, 0, 0, 0}};
 
     (void)octets, (void)count;
+    return nothing;
+}
+
+uint32_t empty_order(uint64_t *deadlines, size_t count, const uint64_t *periods, size_t links,
+                     uint16_t link, uint8_t code, uint64_t time)
+{
+    (void)deadlines, (void)count, (void)periods, (void)links, (void)link, (void)code, (void)time;
+    return SSCF_ACCEPTED;
+}
+
+struct sscf_due_answer empty_due(uint64_t *deadlines, size_t count, const uint64_t *periods,
+                                 size_t links, uint64_t time)
+{
+    struct sscf_due_answer nothing = {SSCF_ACCEPTED, 0, 0};
+
+    (void)deadlines, (void)count, (void)periods, (void)links, (void)time;
     return nothing;
 }

@@ -1,8 +1,9 @@
 /*
  * A test of conformance: it makes the calls and checks every octet of what comes back, where all
- * is well and where it is not. What it expects is written down from Q.2140's Table 6, from Q.2210's
- * figures for the changeover messages, and from the layouts and the refusals in sscf.h; nothing of
- * it is taken from the library, but that a burst of one event is held against its single call.
+ * is well and where it is not. What it expects is written down from Q.2140's Tables 5 and 6, from
+ * Q.2210's figures for the changeover messages, and from the layouts and the refusals in sscf.h;
+ * nothing of it is taken from the library, but that a burst of one event is held against its single
+ * call.
  */
 #include <sscf_host.h>
 
@@ -1967,6 +1968,276 @@ static void changeover_several_wrong(void)
         }
 }
 
+/*
+ * Deadlines: a call works on `keeper`, and `due` is what all of it should hold afterwards, guards
+ * among it. Table 5 has T1 at 5 seconds and T2 at 30.
+ */
+
+enum { SET_T1 = 48, SET_T2 = 49, SET_T3 = 50, RESET_T1 = 56, RESET_T2 = 57, RESET_T3 = 58 };
+enum { MANY = 256, MANY_TIMERS = 3 * MANY };
+
+static const uint64_t ones = UINT64_MAX;
+
+struct deadlines {
+    uint64_t guard_1[4];
+    uint64_t deadlines[MANY_TIMERS + 4];
+    uint64_t guard_2[4];
+    uint64_t periods[MANY + 1];
+    uint64_t guard_3[4];
+};
+
+static struct deadlines keeper, due;
+static size_t count, links; /* as lent to the library */
+
+/* A list of no running timers and so many links, all else filled with numbers that are neither. */
+static void set_up_deadlines(size_t new_links)
+{
+    size_t n;
+
+    links = new_links;
+    count = 3 * links + 1;
+    memset(&keeper, 0x5A, sizeof keeper);
+    for (n = 0; n < 3 * links; n++)
+        keeper.deadlines[n] = ones;
+    keeper.deadlines[3 * links] = 0;
+    for (n = 0; n < links; n++)
+        keeper.periods[n] = 1 + 59999 * (n % 2); /* its limits by turns */
+    due = keeper;
+}
+
+static int as_due(void)
+{
+    return memcmp(&keeper, &due, sizeof keeper) == 0;
+}
+
+static void order_is(unsigned link, unsigned code, uint64_t time, uint32_t refusal)
+{
+    CHECK(sscf_deadlines_order(keeper.deadlines, count, keeper.periods, links, (uint16_t)link, (uint8_t)code,
+                               time) == refusal);
+    CHECK(as_due());
+}
+
+static void due_is(uint64_t time, uint32_t refusal, uint32_t expired, uint32_t link)
+{
+    struct sscf_due_answer answer = sscf_deadlines_due(keeper.deadlines, count, keeper.periods, links, time);
+
+    CHECK(answer.refusal == refusal && answer.expired == expired && answer.link == link);
+    CHECK(as_due());
+}
+
+/* An accepted order has this deadline of its timer and this time. */
+static void ordered(unsigned link, unsigned code, uint64_t time, uint64_t deadline)
+{
+    due.deadlines[3 * link + code % 8] = deadline;
+    due.deadlines[3 * links] = time;
+    order_is(link, code, time, SSCF_ACCEPTED);
+}
+
+/* A question that names a timer, 0 for T1; and one that finds nothing due. */
+static void named(uint64_t time, unsigned link, unsigned timer)
+{
+    due.deadlines[3 * link + timer] = ones;
+    due.deadlines[3 * links] = time;
+    due_is(time, SSCF_ACCEPTED, 48 + timer, link);
+}
+
+static void nothing_due(uint64_t time)
+{
+    due.deadlines[3 * links] = time;
+    due_is(time, SSCF_ACCEPTED, 0, 0);
+}
+
+static void fresh_deadlines(void)
+{
+    size_t n;
+
+    for (n = 0; n <= MANY_TIMERS + 4; n++) {
+        turn = n;
+        set_up_deadlines(MANY);
+        memset(keeper.deadlines, 0x5A, sizeof keeper.deadlines);
+        due = keeper;
+        if (n >= 4 && n <= MANY_TIMERS + 1 && n % 3 == 1) {
+            memset(due.deadlines, 0xFF, (n - 1) * sizeof *due.deadlines);
+            due.deadlines[n - 1] = 0;
+            CHECK(sscf_deadlines_fresh(keeper.deadlines, n) == SSCF_ACCEPTED);
+        } else {
+            CHECK(sscf_deadlines_fresh(keeper.deadlines, n) == SSCF_DEADLINES_REFUSED_LISTS);
+        }
+        CHECK(as_due());
+    }
+    CHECK(sscf_deadlines_fresh(NULL, 0) == SSCF_DEADLINES_REFUSED_LISTS);
+    CHECK(sscf_deadlines_fresh(keeper.deadlines, SIZE_MAX) == SSCF_DEADLINES_REFUSED_LISTS);
+    CHECK(as_due());
+}
+
+/* Every code, for the first link, the last and the one behind it, on lists of one, two and all. */
+static void timer_orders_kept(void)
+{
+    static const size_t sizes[] = {1, 2, MANY};
+    unsigned n, code, last;
+
+    for (n = 0; n < 3; n++) {
+        last = (unsigned)sizes[n] - 1;
+        for (code = 0; code < 256; code++) {
+            turn = code;
+            set_up_deadlines(sizes[n]);
+            order_is(last + 1, code, 7, SSCF_DEADLINES_REFUSED_ORDER);
+            order_is(0xFFFF, code, 7, SSCF_DEADLINES_REFUSED_ORDER);
+            if (code == SET_T1 || code == SET_T2)
+                ordered(last, code, 7, code == SET_T1 ? 5007 : 30007);
+            else if (code == SET_T3)
+                ordered(last, code, 7, last % 2 == 0 ? 8 : 60007);
+            else if (code >= RESET_T1 && code <= RESET_T3)
+                ordered(last, code, 7, ones);
+            else
+                order_is(last, code, 7, SSCF_DEADLINES_REFUSED_ORDER);
+        }
+    }
+}
+
+/* Set, set afresh, reset, reset again; and a time that goes back, by an order and by a question. */
+static void timers_set_and_reset(void)
+{
+    set_up_deadlines(2);
+    ordered(1, SET_T2, 0, 30000);
+    ordered(1, SET_T2, 100, 30100);
+    ordered(0, SET_T2, 100, 30100);
+    ordered(1, RESET_T2, 101, ones);
+    ordered(1, RESET_T2, 101, ones);
+    order_is(0, SET_T2, 100, SSCF_DEADLINES_REFUSED_TIME);
+    order_is(0, RESET_T2, 100, SSCF_DEADLINES_REFUSED_TIME);
+    due_is(100, SSCF_DEADLINES_REFUSED_TIME, 0, 0);
+    nothing_due(101);
+    nothing_due(30099);
+    order_is(0, RESET_T2, 30098, SSCF_DEADLINES_REFUSED_TIME);
+    named(30100, 0, 1);
+    nothing_due(30100);
+    nothing_due(ones);
+    order_is(0, SET_T3, ones, SSCF_DEADLINES_REFUSED_DEADLINE);
+    ordered(0, RESET_T3, ones, ones);
+}
+
+/* The earliest first, then the lower link, then the lower timer; what is late waits for its time. */
+static void timers_due_in_order(void)
+{
+    set_up_deadlines(MANY);
+    ordered(200, SET_T1, 1000, 6000);
+    ordered(7, SET_T3, 1000, 61000);
+    ordered(255, SET_T1, 1000, 6000);
+    ordered(200, SET_T2, 1000, 31000);
+    ordered(0, SET_T2, 1000, 31000);
+    due.deadlines[3 * 200 + 2] = keeper.deadlines[3 * 200 + 2] = 6000;
+    due.deadlines[3 * 100 + 2] = keeper.deadlines[3 * 100 + 2] = 5999;
+    nothing_due(5998);
+    named(60999, 100, 2);
+    named(60999, 200, 0);
+    named(60999, 200, 2);
+    named(60999, 255, 0);
+    named(60999, 0, 1);
+    named(60999, 200, 1);
+    nothing_due(60999);
+    named(61000, 7, 2);
+    nothing_due(61000);
+}
+
+/* Every place, alone and with all others due one millisecond later. */
+static void every_timer_due(void)
+{
+    unsigned n, k;
+
+    for (n = 0; n < MANY_TIMERS; n++) {
+        turn = n;
+        set_up_deadlines(MANY);
+        keeper.deadlines[n] = due.deadlines[n] = 5;
+        nothing_due(4);
+        named(5, n / 3, n % 3);
+        for (k = 0; k < MANY_TIMERS; k++)
+            keeper.deadlines[k] = due.deadlines[k] = 6 + (k < n);
+        named(7, n / 3, n % 3);
+    }
+}
+
+/* The last deadline there can be, and the first there cannot; all ones is due at no time. */
+static void last_deadlines(void)
+{
+    set_up_deadlines(2);
+    keeper.periods[1] = due.periods[1] = 10;
+    ordered(1, SET_T3, ones - 11, ones - 1);
+    order_is(1, SET_T3, ones - 10, SSCF_DEADLINES_REFUSED_DEADLINE);
+    order_is(1, SET_T3, ones, SSCF_DEADLINES_REFUSED_DEADLINE);
+    order_is(1, SET_T1, ones - 11, SSCF_DEADLINES_REFUSED_DEADLINE);
+    order_is(1, SET_T2, ones - 11, SSCF_DEADLINES_REFUSED_DEADLINE);
+    order_is(0, SET_T3, ones - 12, SSCF_DEADLINES_REFUSED_TIME);
+    nothing_due(ones - 2);
+    named(ones - 1, 1, 2);
+    nothing_due(ones);
+    set_up_deadlines(1);
+    order_is(0, SET_T1, ones - 5000, SSCF_DEADLINES_REFUSED_DEADLINE);
+    ordered(0, SET_T1, ones - 5001, ones - 1);
+    set_up_deadlines(1);
+    order_is(0, SET_T2, ones - 30000, SSCF_DEADLINES_REFUSED_DEADLINE);
+    ordered(0, SET_T2, ones - 30001, ones - 1);
+}
+
+/* A period out of range at any place, whatever is asked of which link. */
+static void bad_periods(void)
+{
+    static const uint64_t bad[] = {0, 60001, (uint64_t)1 << 32, UINT64_MAX};
+    unsigned n;
+
+    for (n = 0; n < 4 * MANY; n++) {
+        turn = n;
+        set_up_deadlines(MANY);
+        keeper.periods[n / 4] = due.periods[n / 4] = bad[n % 4];
+        order_is(0, RESET_T1, 9, SSCF_DEADLINES_REFUSED_PERIOD);
+        order_is(255, SET_T3, 9, SSCF_DEADLINES_REFUSED_PERIOD);
+        due_is(9, SSCF_DEADLINES_REFUSED_PERIOD, 0, 0);
+    }
+}
+
+static void bad_lists(void)
+{
+    static const size_t counts[][2] = {{0, 0}, {1, 0}, {4, 0}, {3, 1}, {5, 1}, {4, 2}, {6, 2}, {8, 2}, {7, 1},
+                                       {769, 255}, {768, 256}, {770, 256}, {772, 257}, {771, 257},
+                                       {SIZE_MAX, SIZE_MAX}, {0, SIZE_MAX / 3 + 1}, {4, SIZE_MAX / 3 + 2}};
+    unsigned n;
+
+    for (n = 0; n < sizeof counts / sizeof *counts; n++) {
+        turn = n;
+        set_up_deadlines(MANY);
+        count = counts[n][0];
+        links = counts[n][1];
+        order_is(0, SET_T1, 9, SSCF_DEADLINES_REFUSED_LISTS);
+        due_is(9, SSCF_DEADLINES_REFUSED_LISTS, 0, 0);
+    }
+    CHECK(sscf_deadlines_order(NULL, 0, NULL, 0, 0, SET_T1, 0) == SSCF_DEADLINES_REFUSED_LISTS);
+    CHECK(sscf_deadlines_due(NULL, 0, NULL, 0, 0).refusal == SSCF_DEADLINES_REFUSED_LISTS);
+}
+
+/* Each thing wrong with each other: the lowest number is answered. */
+static void deadlines_several_wrong(void)
+{
+    unsigned n;
+
+    for (n = 1; n < 32; n++) {
+        uint32_t refusal = n & 1 ? 1 : n & 2 ? 2 : n & 4 ? 3 : n & 8 ? 4 : 5;
+        uint64_t time = n & 16 ? ones - 3 : 1000; /* too late to set T1 */
+
+        turn = n;
+        set_up_deadlines(2);
+        keeper.deadlines[6] = due.deadlines[6] = n & 8 ? time + 1 : time;
+        if (n & 2)
+            keeper.periods[1] = due.periods[1] = 0;
+        if (n & 1)
+            count = 6;
+        order_is(n & 4 ? 2 : 0, SET_T1, time, refusal);
+        if (n & 4)
+            order_is(0, SET_T1 - 1, time, refusal);
+        if (n & (1 | 2 | 8))
+            due_is(time, n & 1 ? 1 : n & 2 ? 2 : 4, 0, 0);
+    }
+}
+
 int main(void)
 {
     static void (*const parts[])(void) = {
@@ -1983,7 +2254,9 @@ int main(void)
         burst_goes_on, bursts_of_one,
         changeovers,    changeover_bits, changeover_widths,
         changeover_lengths, changeover_headings_and_services, every_changeover_octet,
-        changeover_several_wrong
+        changeover_several_wrong,
+        fresh_deadlines, timer_orders_kept, timers_set_and_reset, timers_due_in_order,
+        every_timer_due, last_deadlines, bad_periods, bad_lists, deadlines_several_wrong
     };
     size_t i;
 
