@@ -3,7 +3,7 @@ use Prim.Native.Nat.{ℕ, zero, suc, _+_, _-_, _*_, _/_, _<_, _≤_}
 use native.Mathlib.Omega.{arith}
 use mathlib.Core.Path.{_≡_, refl, sym, ap, subst, _∙_}
 use mathlib.Core.Bool.{Bool, true, false, cond, not, _||_, true≢false}
-use mathlib.Core.List.{List, [], _∷_}
+use mathlib.Core.List.{List, [], _∷_, _++_}
 use lib.Dec.{eqb, ltb, leb}
 use lib.ListN.{length}
 use borrow.Author.Tests.{eq-eqb, ne-eqb, lt-ltb, le-ltb, eqb-true, eqb-false, ltb-false, leb-true, leb-false, le-leb, lt-leb, not-true, not-false}
@@ -12,7 +12,7 @@ use Rattle.unit.proofs.Checks.{clear, none-refuses, refusing}
 use Rattle.octet.proofs.Branches.{neither}
 use Rattle.keeper.specs.declared.DueAnswer.{DueAnswer}
 use Rattle.keeper.specs.Deadlines.{idle, lastTime, withTime, orderOf, followed}
-use Rattle.keeper.specs.Calls.{badLists, badPeriods, noOrder, pastAll, ownPeriod, dueChecks, orderChecks, Kept, keeping, kept, freshDeadlines, freshCall, orderCall, answered, Names, Tells, DueCall}
+use Rattle.keeper.specs.Calls.{badLists, badPeriods, noOrder, pastAll, ownPeriod, listChecks, dueChecks, orderChecks, Kept, keeping, kept, freshDeadlines, freshCall, orderCall, answered, Names, Tells, DueCall}
 
 -- GOOD LISTS
 pub few : (n : ℕ) → eqb n 0 || ltb 256 n ≡ false → n ≤ 256
@@ -34,6 +34,17 @@ good count n h =
       some : (n : ℕ) → (n ≡ 0 → ⊥) → 1 ≤ n
       some zero z = absurd (z refl)
       some (suc n) z = omega arith
+
+-- THE LISTS' CHECKS, before others: refused, or both past
+pub front-refused : (d p : List ℕ) (others : List (Check ℕ)) (n : ℕ) → n ≡ numberOf (first (listChecks d p)) → (n ≡ 0 → ⊥) → n ≡ numberOf (first (listChecks d p ++ others))
+front-refused d p others n e z = by (badLists (length d) (length p)) (badPeriods p) e where
+  by : (a b : Bool) → n ≡ numberOf (cond a (refused 1) (cond b (refused 2) passed)) → n ≡ numberOf (cond a (refused 1) (cond b (refused 2) (first others)))
+  by true b e = e
+  by false true e = e
+  by false false e = absurd (z e)
+
+pub front-passed : (d p : List ℕ) → numberOf (first (listChecks d p)) ≡ 0 → (badLists (length d) (length p) ≡ false) × (badPeriods p ≡ false)
+front-passed d p h = let t = clear (listChecks d p) (none-refuses (listChecks d p) (omega arith, (omega arith, tt)) h) in (t .0, t .1 .0)
 
 -- DEADLINES THAT FIT: by what is left up to all ones
 pub by-the-rest : (time x : ℕ) → time ≤ idle → leb (idle - time) x ≡ leb idle (time + x)

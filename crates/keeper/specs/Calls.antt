@@ -52,19 +52,17 @@ pastAll (Set t) t3 time = leb idle (time + period t3 t)
 pastAll (Reset t) t3 time = false
 pastAll none t3 time = false
 
--- Both calls have the same tests, and a question about what is due has no order that could be refused.
+-- An order and a question both begin with the lists, and a question has no order that could be refused.
+abbrev pub listChecks : List ℕ → List ℕ → List (Check ℕ)
+listChecks d p = (REFUSED-LISTS if badLists (length d) (length p)) ∷ (REFUSED-PERIOD if badPeriods p) ∷ []
+
 abbrev pub dueChecks : List ℕ → List ℕ → ℕ → List (Check ℕ)
-dueChecks d p time =
-    (REFUSED-LISTS if badLists (length d) (length p))
-    ∷ (REFUSED-PERIOD if badPeriods p)
-    ∷ (REFUSED-TIME if ltb time (lastTime d (length p)))
-    ∷ []
+dueChecks d p time = listChecks d p ++ (REFUSED-TIME if ltb time (lastTime d (length p))) ∷ []
 
 abbrev pub orderChecks : List ℕ → List ℕ → ℕ → ℕ → ℕ → List (Check ℕ)
 orderChecks d p link c time =
-    (REFUSED-LISTS if badLists (length d) (length p))
-    ∷ (REFUSED-PERIOD if badPeriods p)
-    ∷ (REFUSED-ORDER if leb (length p) link || noOrder (orderOf c))
+    listChecks d p
+    ++ (REFUSED-ORDER if leb (length p) link || noOrder (orderOf c))
     ∷ (REFUSED-TIME if ltb time (lastTime d (length p)))
     ∷ (REFUSED-DEADLINE if pastAll (orderOf c) (ownPeriod p link) time)
     ∷ []

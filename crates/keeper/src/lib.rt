@@ -8,7 +8,7 @@ ghost use Prim.Native.Nat.{_+_, _*_, _%_, _≤_};
 ghost use lib.ListN.{length};
 ghost use Rattle.unit.specs.Checks.{first, numberOf};
 ghost use Rattle.keeper.specs.Deadlines.{orderOf, followed};
-ghost use Rattle.keeper.specs.Calls.{badLists, badPeriods, noOrder, pastAll, dueChecks, orderChecks, keeping, freshCall, orderCall, DueCall};
+ghost use Rattle.keeper.specs.Calls.{badLists, badPeriods, noOrder, pastAll, listChecks, dueChecks, orderChecks, keeping, freshCall, orderCall, DueCall};
 ghost use Rattle.keeper.specs.Searched.{periodSet, boundOf, LeastOf, Sought};
 
 // A deadline of all ones does not run.
@@ -105,17 +105,28 @@ fn bad_periods(periods: &[u64]) -> bool
     false
 }
 
-// All checks of an order.
-fn order_checked(deadlines: &[u64], periods: &[u64], link: u16, code: u8, time: u64) -> u32
-    ensures { λ r. ⌜ r ≡ numberOf (first (orderChecks (now (deadlines .entry)) (now (periods .entry)) link code time)) ⌝ }
+// The checks of the lists, with which an order and a question begin.
+fn lists_checked(deadlines: &[u64], periods: &[u64]) -> u32
+    ensures { λ r. ⌜ r ≡ numberOf (first (listChecks (now (deadlines .entry)) (now (periods .entry)))) ⌝ }
 {
-    let links = periods.len();
-    if bad_lists(deadlines.len(), links) {
+    if bad_lists(deadlines.len(), periods.len()) {
         return REFUSED_LISTS;
     }
     if bad_periods(periods) {
         return REFUSED_PERIOD;
     }
+    ACCEPTED
+}
+
+// All checks of an order.
+fn order_checked(deadlines: &[u64], periods: &[u64], link: u16, code: u8, time: u64) -> u32
+    ensures { λ r. ⌜ r ≡ numberOf (first (orderChecks (now (deadlines .entry)) (now (periods .entry)) link code time)) ⌝ }
+{
+    let refusal = lists_checked(deadlines, periods);
+    if refusal != ACCEPTED {
+        return refusal;
+    }
+    let links = periods.len();
     let at = link as usize;
     if links <= at {
         return REFUSED_ORDER;
@@ -172,13 +183,11 @@ pub extern "C" fn sscf_deadlines_order(
 fn due_checked(deadlines: &[u64], periods: &[u64], time: u64) -> u32
     ensures { λ r. ⌜ r ≡ numberOf (first (dueChecks (now (deadlines .entry)) (now (periods .entry)) time)) ⌝ }
 {
+    let refusal = lists_checked(deadlines, periods);
+    if refusal != ACCEPTED {
+        return refusal;
+    }
     let links = periods.len();
-    if bad_lists(deadlines.len(), links) {
-        return REFUSED_LISTS;
-    }
-    if bad_periods(periods) {
-        return REFUSED_PERIOD;
-    }
     let last = TIMERS * links;
     if time < deadlines[last] {
         return REFUSED_TIME;
