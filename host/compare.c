@@ -1510,24 +1510,6 @@ static void burst_by_name(void)
 
 /* The parts. */
 
-/* All kinds of a thing must have been there, or it says little that they did not differ. */
-static int never_counted(const char *name, const char *what, const char *const *kinds,
-                         const unsigned long *counts, unsigned many)
-{
-    int missing = 0;
-    unsigned n;
-
-    printf("%s, times %s:", name, what);
-    for (n = 0; n < many; n++) {
-        printf("%s %s: %lu", n > 0 ? "," : "", kinds[n], counts[n]);
-        missing |= counts[n] == 0;
-    }
-    printf("\n");
-    if (missing)
-        printf("%s: one was never seen\n", name);
-    return missing;
-}
-
 static int named_otherwise(const char *name)
 {
     if (told[FIELDS] != 0)

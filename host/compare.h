@@ -119,4 +119,22 @@ static inline int never_seen(const char *name, const unsigned long *refusals, un
     return missing | odd;
 }
 
+/* All kinds of a thing must have been there, or it says little that they did not differ. */
+static inline int never_counted(const char *name, const char *what, const char *const *kinds,
+                                const unsigned long *counts, unsigned many)
+{
+    int missing = 0;
+    unsigned n;
+
+    printf("%s, times %s:", name, what);
+    for (n = 0; n < many; n++) {
+        printf("%s %s: %lu", n > 0 ? "," : "", kinds[n], counts[n]);
+        missing |= counts[n] == 0;
+    }
+    printf("\n");
+    if (missing)
+        printf("%s: one was never seen\n", name);
+    return missing;
+}
+
 #endif

@@ -1187,7 +1187,6 @@ static void parts(size_t links)
     several_wrong(links);
 }
 
-/* All kinds of a thing must have been there, or it says little that they did not differ. */
 static int never_so(void)
 {
     static const char *const names[KINDS] = {
@@ -1196,18 +1195,8 @@ static int never_so(void)
         "nothing at the last time of all", "ties of two links", "ties of two timers of a link",
         "due but ordered otherwise"
     };
-    int missing = 0;
-    unsigned n;
 
-    printf("timers, times each was seen:");
-    for (n = 0; n < KINDS; n++) {
-        printf("%s %s: %lu", n > 0 ? "," : "", names[n], seen[n]);
-        missing |= seen[n] == 0;
-    }
-    printf("\n");
-    if (missing)
-        printf("timers: one was never seen\n");
-    return missing;
+    return never_counted("timers", "each was seen", names, seen, KINDS);
 }
 
 int main(int argc, char **argv)
