@@ -813,10 +813,11 @@ struct sscf_changeover_answer sscf_changeover_read(const uint8_t *octets, size_t
  *
  * What is left to the host:
  *
- * - the clock, and waking up. The least number of the list but the last is the time at which to ask
- *   next, SSCF_NOT_RUNNING for none: sscf_next_deadline of sscf_host.h finds it. A timer that is
- *   set runs from the time given with its order, not from when it should have been named. So
- *   whatever the host wakes up late is added to each T3, and all of proving must still fit into T2.
+ * - the clock, and waking up. The least number of the list, the last one left out, is the time at
+ *   which to ask next, SSCF_NOT_RUNNING for none: sscf_next_deadline of sscf_host.h finds it. A
+ *   timer that is set runs from the time given with its order, not from when it should have been
+ *   named. So whatever the host wakes up late is added to each T3, and all of proving must still
+ *   fit into T2.
  * - to follow every timer order of an accepted step or burst, resets too, in the order written. One
  *   time read for a turn will do for all that the host does in it.
  * - to hand in at once, before any other event, what was named: it is marked not running here with
@@ -826,9 +827,10 @@ struct sscf_changeover_answer sscf_changeover_read(const uint8_t *octets, size_t
  *   behind. Asked again and again at one time, with no order between, every timer that is due is
  *   named exactly once: the earliest deadline first, of equal ones the lower link's, and of one
  *   link's T1 before T2 before T3. What an order sets meanwhile is due later than its time.
- * - to look at the refusals. A question that is refused answers no expiry, as if nothing were due.
+ * - to look at the refusals. A question that is refused answers no expiry, as if nothing were due,
+ *   and an order that is refused is lost: its timer would never be set, or never stopped.
  * - to keep the list beside its table: both are made fresh together, and a copy of one goes with a
- *   copy of the other. The calls believe the deadlines that they find.
+ *   copy of the other. The calls believe the deadlines and the last time that they find.
  *
  * A host of four links, with sscf_host.h. Its clock, time_now, is in milliseconds, and wait_until,
  * hand_on_signals and give_up are its own too. follow goes behind every step that is accepted:
