@@ -5,7 +5,7 @@ use mathlib.Core.Path.{_≡_, refl, sym, ap, subst, _∙_}
 use mathlib.Core.Bool.{Bool, true, false, cond, not, _||_, true≢false}
 use mathlib.Core.List.{List, [], _∷_, _++_}
 use lib.Dec.{eqb, ltb, leb}
-use lib.ListN.{length}
+use lib.ListN.{length, getD}
 use borrow.Author.Tests.{eq-eqb, ne-eqb, lt-ltb, le-ltb, eqb-true, eqb-false, ltb-false, leb-true, leb-false, le-leb, lt-leb, not-true, not-false}
 use Rattle.unit.specs.Checks.{Check, Verdict, passed, refused, first, numberOf}
 use Rattle.unit.proofs.Checks.{clear, none-refuses, refusing}
@@ -60,9 +60,16 @@ order-is {b} {n} e h = not-true n (sym e ∙ not-false b h)
 pub no-order-is : {b n : Bool} → b ≡ not n → not b ≡ true → n ≡ true
 no-order-is {b} {n} e h = not-false n (sym e ∙ not-true b h)
 
+-- A PERIOD that passed is at least 1
+pub period-some : (p : List ℕ) (i : ℕ) → badPeriods p ≡ false → i < length p → 1 ≤ getD p i 0
+period-some [] i b h = absurd (omega arith)
+period-some (x ∷ p) zero b h = let e = neither (ltb x 1 || ltb 60000 x) (badPeriods p) b in ltb-false x 1 (neither (ltb x 1) (ltb 60000 x) (e .0) .0)
+period-some (x ∷ p) (suc i) b h = period-some p i (neither (ltb x 1 || ltb 60000 x) (badPeriods p) b .1) (omega arith)
+
 -- past all checks of an order
 pub record Followed (d p : List ℕ) (link c time : ℕ) : Type 0 where
   pub lists : Good (length d) (length p)
+  pub periods : badPeriods p ≡ false
   pub known : link < length p
   pub order : noOrder (orderOf c) ≡ false
   pub later : lastTime d (length p) ≤ time
@@ -74,6 +81,7 @@ order-past d p link c time h =
     let o = neither (leb (length p) link) (noOrder (orderOf c)) (t .1 .1 .0) in
     record {
       lists = good (length d) (length p) (t .0);
+      periods = t .1 .0;
       known = leb-false (length p) link (o .0);
       order = o .1;
       later = ltb-false time (lastTime d (length p)) (t .1 .1 .1 .0);

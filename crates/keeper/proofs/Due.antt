@@ -11,7 +11,7 @@ use borrow.Author.Tests.{ltb-true, ltb-false, eqb-true, eqb-false}
 use Rattle.table6.specs.Cell.{Timer}
 use Rattle.keeper.specs.declared.DueAnswer.{DueAnswer}
 use Rattle.keeper.specs.Deadlines.{idle, rank, placeOf, deadline, Runs, withDeadline, withTime, expiry}
-use Rattle.keeper.specs.Due.{Due, Before, EarliestDue, NothingDue, Named, nothing, one, Rightly, stopped, expired, linkOf}
+use Rattle.keeper.specs.Due.{Due, Before, EarliestDue, NothingDue, Named, nothing, one, Rightly, left, expired, linkOf}
 use Rattle.keeper.specs.Calls.{answered, Names}
 use Rattle.keeper.specs.Searched.{boundOf, FirstBelow, NoneBelow, Sought}
 use Rattle.keeper.proofs.Places.{rank-below, timerAt, rank-at, place-back, place-below, same-place, same-rank, expiry-at}

@@ -8,16 +8,17 @@ use mathlib.Core.List.{List, [], _∷_, _++_}
 use lib.ListN.{length, getD, set, replicate, length-set, length-replicate, getD-replicate, List·getD-append}
 use lib.Seq.{getD-set-same, getD-set-other, getD-append-seam, getD-at}
 use Rattle.unit.specs.Checks.{Verdict, passed, refused, first, numberOf}
-use Rattle.table6.specs.Cell.{Timer}
+use borrow.Author.Tests.{leb-false}
+use Rattle.table6.specs.Cell.{Timer, T1, T2, T3}
 use Rattle.keeper.specs.declared.DueAnswer.{DueAnswer}
 use Rattle.keeper.specs.Deadlines.{Order, Set, Reset, idle, placeOf, deadline, lastTime, withDeadline, withTime, orderOf, period, followed, expiry}
-use Rattle.keeper.specs.Due.{Due, EarliestDue, NothingDue, Named, nothing, one, Rightly, stopped, expired, linkOf}
-use Rattle.keeper.specs.Calls.{badLists, ownPeriod, freshChecks, dueChecks, orderChecks, Kept, keeping, kept, freshDeadlines, freshCall, orderCall, answered, Names, Tells, DueCall}
-use Rattle.keeper.specs.Laws.{FreshRefused, OrderRefused, DueRefused, NoneRuns, Changed, SetChangesOne, ResetChangesOne, WasDue, NamedWasDue, OnlyTime, NothingDueExactly, OrderTimeKept, DueTimeKept}
+use Rattle.keeper.specs.Due.{Due, EarliestDue, NothingDue, Named, nothing, one, Rightly, left, expired, linkOf}
+use Rattle.keeper.specs.Calls.{pastAll, ownPeriod, freshChecks, dueChecks, orderChecks, Kept, keeping, kept, freshDeadlines, freshCall, orderCall, answered, Names, Tells, DueCall}
+use Rattle.keeper.specs.Laws.{FreshRefused, OrderRefused, DueRefused, NoneRuns, Changed, SetChangesOne, SetRuns, ResetChangesOne, WasDue, NamedWasDue, OnlyTime, NothingDueExactly, OrderTimeKept, DueTimeKept}
 use Rattle.keeper.proofs.Places.{place-below, same-place, expiry-some}
 use Rattle.unit.proofs.Checks.{clear, none-refuses}
-use Rattle.keeper.proofs.Calls.{Good, Followed, fresh-made, order-past, order-passes, order-followed, Asked, due-past, due-passes, names-of}
-use Rattle.keeper.proofs.Lists.{length-followed, length-stopped}
+use Rattle.keeper.proofs.Calls.{Good, period-some, Followed, fresh-made, order-past, order-passes, order-followed, Asked, due-past, due-passes, names-of}
+use Rattle.keeper.proofs.Lists.{length-followed, time-left}
 
 -- REFUSALS
 untouched : (v : Verdict ℕ) (d after : List ℕ) → 1 ≤ kept v d after .refusal → kept v d after .deadlines ≡ d
@@ -83,6 +84,20 @@ set-changes-one d p link c time t e h =
     let x = time + period (ownPeriod p link) t in
     subst (λ (l : List ℕ). Changed d l (length p) link t x time) (after d p link c time (Set t) e a) (changed d (length p) link t x time (f .known) (f .lists .full))
 
+-- a timer that was set
+period-least : (t3 : ℕ) (t : Timer) → 1 ≤ t3 → 1 ≤ period t3 t
+period-least t3 T1 h = omega arith
+period-least t3 T2 h = omega arith
+period-least t3 T3 h = h
+
+pub set-runs : SetRuns
+set-runs d p link c time t e h =
+    let f = order-past d p link c time (accepted d p link c time h) in
+    let t3 = ownPeriod p link in
+    let x = set-changes-one d p link c time t e h .itself in
+    let b = leb-false idle (time + period t3 t) (sym (ap (λ (o : Order). pastAll o t3 time) e) ∙ f .fits) in
+    (omega (arith, x, b), omega (arith, x, period-least t3 t (period-some p link (f .periods) (f .known))))
+
 pub reset-changes-one : ResetChangesOne
 reset-changes-one d p link c time t e h =
     let a = accepted d p link c time h in
@@ -130,7 +145,7 @@ told-some d p time a after t h = by (first (dueChecks d p time)) t where
 
 pub was-due : (d : List ℕ) (n time : ℕ) (a : DueAnswer) (after : List ℕ) → length d ≡ 3 * n + 1 → Names d n time a after → 1 ≤ a .expired → WasDue d after n time a
 was-due d n time a after l w h = by (w .named) (w .rightly) (w .answer) (w .list) where
-  by : (x : Named) → Rightly d n time x → a ≡ answered 0 (expired x) (linkOf x) → after ≡ withTime time (stopped x d) n → WasDue d after n time a
+  by : (x : Named) → Rightly d n time x → a ≡ answered 0 (expired x) (linkOf x) → after ≡ left x d n time → WasDue d after n time a
   by nothing r e f = absurd (omega (arith, ap (λ (x : DueAnswer). x .expired) e))
   by (one k t) r e f =
       let g : a .link ≡ k = ap (λ (x : DueAnswer). x .link) e in
@@ -154,7 +169,7 @@ nothing-due-exactly d p time a after t h =
       l : length d ≡ 3 * length p + 1
       l = due-past d p time (told-past d p time a after t h) .lists .full
 
-      by : (x : Named) → Rightly d (length p) time x → a ≡ answered 0 (expired x) (linkOf x) → after ≡ withTime time (stopped x d) (length p) →
+      by : (x : Named) → Rightly d (length p) time x → a ≡ answered 0 (expired x) (linkOf x) → after ≡ left x d (length p) time →
           ((a .expired ≡ 0) ↔ NothingDue d (length p) time) × (a .expired ≡ 0 → OnlyTime d after (length p) time)
       by nothing r e f =
           ((λ z. r, λ z. ap (λ (x : DueAnswer). x .expired) e), λ z. subst (λ (y : List ℕ). OnlyTime d y (length p) time) (sym f) (only-time d (length p) time l))
@@ -182,5 +197,5 @@ due-time-kept d p time a after t = by (first (dueChecks d p time)) refl t where
   by : (v : Verdict ℕ) → first (dueChecks d p time) ≡ v → Tells v d (length p) time a after → lastTime d (length p) ≤ lastTime after (length p)
   by passed e t =
       let f = due-past d p time e in
-      omega (arith, f .later, ap (λ (l : List ℕ). lastTime l (length p)) (t .list) ∙ getD-set-same (stopped (t .named) d) (3 * length p) time 0 (omega (arith, f .lists .full, length-stopped (t .named) d)))
+      omega (arith, f .later, ap (λ (l : List ℕ). lastTime l (length p)) (t .list) ∙ time-left (t .named) d (length p) time (omega (arith, f .lists .full)))
   by (refused r) e t = omega (arith, ap (λ (l : List ℕ). lastTime l (length p)) (t .1))

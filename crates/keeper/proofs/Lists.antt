@@ -5,9 +5,9 @@ use native.Mathlib.Omega.{arith}
 use mathlib.Core.Path.{_≡_, refl, sym, ap, _∙_}
 use mathlib.Core.List.{List, [], _∷_, _++_, append-assoc}
 use lib.ListN.{length, getD, take, drop, set, replicate, length-set, drop-of-length-le}
-use lib.Seq.{take-suc, take-set-le, set-split, set-at, length-take-le, append-snoc}
-use Rattle.keeper.specs.Deadlines.{Order, Set, Reset, none, idle, placeOf, period, followed}
-use Rattle.keeper.specs.Due.{Named, nothing, one, stopped}
+use lib.Seq.{getD-set-same, take-suc, take-set-le, set-split, set-at, length-take-le, append-snoc}
+use Rattle.keeper.specs.Deadlines.{Order, Set, Reset, none, idle, placeOf, lastTime, followed}
+use Rattle.keeper.specs.Due.{Named, nothing, one, left}
 use Rattle.keeper.specs.Calls.{freshDeadlines}
 
 pub length-followed : (o : Order) (d : List ℕ) (link t3 time : ℕ) → length (followed o d link t3 time) ≡ length d
@@ -15,9 +15,10 @@ length-followed (Set t) d link t3 time = length-set d _ _
 length-followed (Reset t) d link t3 time = length-set d _ _
 length-followed none d link t3 time = refl
 
-pub length-stopped : (x : Named) (d : List ℕ) → length (stopped x d) ≡ length d
-length-stopped nothing d = refl
-length-stopped (one link t) d = length-set d (placeOf link t) idle
+-- the last time once something was named
+pub time-left : (x : Named) (d : List ℕ) (n time : ℕ) → 3 * n < length d → lastTime (left x d n time) n ≡ time
+time-left nothing d n time h = getD-set-same d (3 * n) time 0 h
+time-left (one link t) d n time h = getD-set-same (set d (placeOf link t) idle) (3 * n) time 0 (omega (arith, length-set d (placeOf link t) idle))
 
 -- A FRESH LIST, from its end on: all from place i on is as it is to be
 abbrev pub clearedFrom : List ℕ → ℕ → ℕ → List ℕ

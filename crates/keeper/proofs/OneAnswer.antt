@@ -8,7 +8,7 @@ use Rattle.unit.specs.Checks.{Verdict, passed, refused, first}
 use Rattle.unit.specs.OneAnswer.{OneReading}
 use Rattle.unit.proofs.OneAnswer.{equal}
 use Rattle.keeper.specs.declared.DueAnswer.{DueAnswer}
-use Rattle.keeper.specs.Due.{Named, stopped, expired, linkOf}
+use Rattle.keeper.specs.Due.{Named, left, expired, linkOf}
 use Rattle.keeper.specs.Deadlines.{withTime}
 use Rattle.keeper.specs.Calls.{dueChecks, Kept, keeping, Told, telling, answered, Names, Tells, DueCall}
 use Rattle.keeper.proofs.Due.{one-named}
@@ -30,7 +30,7 @@ same-told : (d : List ℕ) (n time : ℕ) (a b : DueAnswer) (x y : List ℕ) →
 same-told d n time a b x y p q =
     let e = one-named d n time (p .named) (q .named) (p .rightly) (q .rightly) in
     (λ i. telling (p .answer i) (p .list i))
-    ∙ ap (λ (w : Named). telling (answered 0 (expired w) (linkOf w)) (withTime time (stopped w d) n)) e
+    ∙ ap (λ (w : Named). telling (answered 0 (expired w) (linkOf w)) (left w d n time)) e
     ∙ sym (λ i. telling (q .answer i) (q .list i))
 
 pub one-told : (v : Verdict ℕ) (d : List ℕ) (n time : ℕ) (a b : DueAnswer) (x y : List ℕ) → Tells v d n time a x → Tells v d n time b y → telling a x ≡ telling b y

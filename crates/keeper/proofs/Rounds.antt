@@ -14,7 +14,7 @@ use Rattle.unit.proofs.Checks.{clear, none}
 use Rattle.table6.specs.Cell.{Timer}
 use Rattle.keeper.specs.declared.DueAnswer.{DueAnswer}
 use Rattle.keeper.specs.Deadlines.{idle, rank, placeOf, deadline, lastTime, withDeadline, withTime, expiry}
-use Rattle.keeper.specs.Due.{Due, Before, EarliestDue, NothingDue, Named, nothing, one, Rightly, stopped, expired, linkOf}
+use Rattle.keeper.specs.Due.{Due, Before, EarliestDue, NothingDue, Named, nothing, one, Rightly, left, expired, linkOf}
 use Rattle.keeper.specs.Calls.{badLists, dueChecks, answered, Names, DueCall}
 use Rattle.keeper.specs.Laws.{Changed}
 use Rattle.keeper.specs.Searched.{boundOf, FirstBelow, NoneBelow, Sought}
@@ -136,7 +136,7 @@ named-is d p after time k t u =
     let v = told-past d p time a after u refl in
     let w = names-of d p time a after v u in
     by (due-past d p time v .lists .full) (w .named) (w .rightly) (w .answer) (w .list) where
-      by : length d ≡ 3 * length p + 1 → (x : Named) → Rightly d (length p) time x → answered 0 (expiry t) k ≡ answered 0 (expired x) (linkOf x) → after ≡ withTime time (stopped x d) (length p) →
+      by : length d ≡ 3 * length p + 1 → (x : Named) → Rightly d (length p) time x → answered 0 (expiry t) k ≡ answered 0 (expired x) (linkOf x) → after ≡ left x d (length p) time →
           EarliestDue d (length p) time k t × Changed d after (length p) k t idle time
       by l nothing r e f = absurd (omega (arith, ap (λ (x : DueAnswer). x .expired) e, expiry-some t))
       by l (one j s) r e f =
@@ -254,8 +254,8 @@ names-one : (d : List ℕ) (n time k : ℕ) (t : Timer) → EarliestDue d n time
 names-one d n time k t f = record { named = one k t; rightly = f; answer = refl; list = refl }
 
 -- what one naming leaves
-abbrev left : List ℕ → ℕ → ℕ → ℕ → List ℕ
-left d n time place = withTime time (withDeadline idle d (place / 3) (timerAt place)) n
+abbrev next : List ℕ → ℕ → ℕ → ℕ → List ℕ
+next d n time place = withTime time (withDeadline idle d (place / 3) (timerAt place)) n
 
 finish : (p : List ℕ) (time : ℕ) (d : List ℕ) → first (dueChecks d p time) ≡ passed → NoneBelow d (3 * length p) (boundOf time) → (names : List Of) × Round p time d names
 finish p time d h f =
@@ -263,23 +263,23 @@ finish p time d h f =
     ([], (after, due-named d p time (answered 0 0 0) after h (names-none d (length p) time f)))
 
 go-on : (p : List ℕ) (time : ℕ) (d : List ℕ) (place : ℕ) → first (dueChecks d p time) ≡ passed → FirstBelow d (3 * length p) (boundOf time) place →
-    (names : List Of) × Round p time (left d (length p) time place) names → (names : List Of) × Round p time d names
+    (names : List Of) × Round p time (next d (length p) time place) names → (names : List Of) × Round p time d names
 go-on p time d place h f r =
     let k = place / 3 in
     let t = timerAt place in
-    let after = left d (length p) time place in
+    let after = next d (length p) time place in
     (of k t ∷ r .0, (after, (due-named d p time (answered 0 (expiry t) k) after h (names-one d (length p) time k t (found-due d (length p) time place f)), r .1)))
 
-passes-left : (p : List ℕ) (time : ℕ) (d : List ℕ) (place : ℕ) → first (dueChecks d p time) ≡ passed → FirstBelow d (3 * length p) (boundOf time) place →
-    first (dueChecks (left d (length p) time place) p time) ≡ passed
-passes-left p time d place h f =
+passes-next : (p : List ℕ) (time : ℕ) (d : List ℕ) (place : ℕ) → first (dueChecks d p time) ≡ passed → FirstBelow d (3 * length p) (boundOf time) place →
+    first (dueChecks (next d (length p) time place) p time) ≡ passed
+passes-next p time d place h f =
     let e = found-due d (length p) time place f in
     let c = changed d (length p) (place / 3) (timerAt place) idle time (e .below) (due-past d p time h .lists .full) in
-    passes-again d (left d (length p) time place) p time h (c .long) (c .last)
+    passes-again d (next d (length p) time place) p time h (c .long) (c .last)
 
-less-left : (p : List ℕ) (time : ℕ) (d : List ℕ) (place : ℕ) → first (dueChecks d p time) ≡ passed → FirstBelow d (3 * length p) (boundOf time) place →
-    running (left d (length p) time place) (3 * length p) + 1 ≡ running d (3 * length p)
-less-left p time d place h f =
+less-next : (p : List ℕ) (time : ℕ) (d : List ℕ) (place : ℕ) → first (dueChecks d p time) ≡ passed → FirstBelow d (3 * length p) (boundOf time) place →
+    running (next d (length p) time place) (3 * length p) + 1 ≡ running d (3 * length p)
+less-next p time d place h f =
     let m = 3 * length p in
     let k = placeOf (place / 3) (timerAt place) in
     let b = place-back place in
@@ -289,11 +289,11 @@ less-left p time d place h f =
 
 ends : (fuel : ℕ) (p : List ℕ) (time : ℕ) (d : List ℕ) → first (dueChecks d p time) ≡ passed → running d (3 * length p) ≤ fuel → (names : List Of) × Round p time d names
 ends zero p time d h b =
-    ⊎-elim (λ f. finish p time d h f) (λ w. absurd (omega (arith, less-left p time d (w .0) h (w .1)))) (search-all d (boundOf time) (3 * length p))
+    ⊎-elim (λ f. finish p time d h f) (λ w. absurd (omega (arith, less-next p time d (w .0) h (w .1)))) (search-all d (boundOf time) (3 * length p))
 ends (suc fuel) p time d h b =
     ⊎-elim
     (λ f. finish p time d h f)
-    (λ w. go-on p time d (w .0) h (w .1) (ends fuel p time (left d (length p) time (w .0)) (passes-left p time d (w .0) h (w .1)) (omega (arith, less-left p time d (w .0) h (w .1)))))
+    (λ w. go-on p time d (w .0) h (w .1) (ends fuel p time (next d (length p) time (w .0)) (passes-next p time d (w .0) h (w .1)) (omega (arith, less-next p time d (w .0) h (w .1)))))
     (search-all d (boundOf time) (3 * length p))
 
 pub round-ends : RoundEnds

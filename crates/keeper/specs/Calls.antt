@@ -9,7 +9,7 @@ use lib.ListN.{length, getD, replicate}
 use Rattle.unit.specs.Checks.{Check, _if_, Verdict, passed, refused, first}
 use Rattle.keeper.specs.declared.DueAnswer.{DueAnswer}
 use Rattle.keeper.specs.Deadlines.{Order, Set, Reset, none, idle, lastTime, withTime, orderOf, period, followed}
-use Rattle.keeper.specs.Due.{Named, Rightly, stopped, expired, linkOf}
+use Rattle.keeper.specs.Due.{Named, Rightly, left, expired, linkOf}
 
 -- THE CHECKS
 
@@ -101,12 +101,12 @@ orderCall d p link c time =
 abbrev pub answered : (refusal expired link : ℕ) → DueAnswer
 answered refusal expired link = record { refusal = refusal; expired = expired; link = link }
 
--- Something is named, and rightly; it runs no more, and the time is the last one given.
+-- Something is named, and rightly, be it nothing.
 pub record Names (d : List ℕ) (n time : ℕ) (a : DueAnswer) (after : List ℕ) : Type 0 where
   pub named : Named
   pub rightly : Rightly d n time named
   pub answer : a ≡ answered 0 (expired named) (linkOf named)
-  pub list : after ≡ withTime time (stopped named d) n
+  pub list : after ≡ left named d n time
 
 abbrev pub Tells : Verdict ℕ → List ℕ → ℕ → ℕ → DueAnswer → List ℕ → Type 0
 Tells (refused r) d n time a after = (a ≡ answered r 0 0) × (after ≡ d)

@@ -4,7 +4,7 @@ use mathlib.Core.Path.{_≡_}
 use mathlib.Core.Logic.{_⊎_}
 use mathlib.Core.List.{List}
 use Rattle.table6.specs.Cell.{Timer}
-use Rattle.keeper.specs.Deadlines.{rank, deadline, idle, Runs, expiry, withDeadline}
+use Rattle.keeper.specs.Deadlines.{rank, deadline, idle, Runs, expiry, withDeadline, withTime}
 
 -- "A timer is due when its deadline is at or before the time": one that runs.
 abbrev pub Due : List ℕ → ℕ → ℕ → Timer → Type 0
@@ -33,10 +33,10 @@ abbrev pub Rightly : List ℕ → ℕ → ℕ → Named → Type 0
 Rightly d n time nothing = NothingDue d n time
 Rightly d n time (one link t) = EarliestDue d n time link t
 
--- What is named runs no more.
-abbrev pub stopped : Named → List ℕ → List ℕ
-stopped nothing d = d
-stopped (one link t) d = withDeadline idle d link t
+-- The list that is left: what is named runs no more, and either way the time is the last one given.
+abbrev pub left : Named → List ℕ → ℕ → ℕ → List ℕ
+left nothing d n time = withTime time d n
+left (one link t) d n time = withTime time (withDeadline idle d link t) n
 
 -- How it is answered: the code of the event to hand in and its link, both 0 where nothing is due.
 abbrev pub expired : Named → ℕ

@@ -6,7 +6,7 @@ use mathlib.Core.List.{List}
 use lib.ListN.{length}
 use Rattle.table6.specs.Cell.{Timer}
 use Rattle.keeper.specs.declared.DueAnswer.{DueAnswer}
-use Rattle.keeper.specs.Deadlines.{Order, Set, Reset, idle, deadline, lastTime, orderOf, period, expiry}
+use Rattle.keeper.specs.Deadlines.{Runs, Order, Set, Reset, idle, deadline, lastTime, orderOf, period, expiry}
 use Rattle.keeper.specs.Due.{Due, NothingDue}
 use Rattle.keeper.specs.Calls.{ownPeriod, freshCall, orderCall, answered, DueCall}
 
@@ -38,6 +38,12 @@ abbrev pub SetChangesOne : Type 0
 SetChangesOne =
     (d p : List ℕ) (link c time : ℕ) (t : Timer) → orderOf c ≡ Set t → orderCall d p link c time .refusal ≡ 0 →
     Changed d (orderCall d p link c time .deadlines) (length p) link t (time + period (ownPeriod p link) t) time
+
+-- A timer that was set runs, and is due later than the time of its order.
+abbrev pub SetRuns : Type 0
+SetRuns =
+    (d p : List ℕ) (link c time : ℕ) (t : Timer) → orderOf c ≡ Set t → orderCall d p link c time .refusal ≡ 0 → let after = orderCall d p link c time .deadlines in
+    Runs after link t × (time < deadline after link t)
 
 abbrev pub ResetChangesOne : Type 0
 ResetChangesOne =

@@ -81,7 +81,7 @@ fn past_all(code: u8, t3: u64, time: u64) -> bool
     (code < signals::RESET_T1) & (IDLE - time <= period(code, t3))
 }
 
-// Whether the lists are not of 3n + 1 and n numbers.
+// Whether the lists are not of 3n + 1 and n numbers, n from 1 to 256.
 fn bad_lists(count: usize, links: usize) -> bool
     ensures { λ r. ⌜ r ≡ badLists count links ⌝ }
 {
@@ -228,8 +228,8 @@ fn least_of(t1: u64, t2: u64, t3: u64) -> Least
     }
 }
 
-// The place of the least number below a bound, and of equal ones of the first; the end where none is below. Each is looked at once, a link's three together: one
-// jump for a link that has nothing earlier (D96).
+// The place of the least number below a bound, and of equal ones of the first; the end where none is below. Each is looked at once, a link's three by one test: which
+// of them is asked only where one is less than what was found so far (D96).
 fn first_below(deadlines: &[u64], end: usize, bound: u64) -> usize
     requires { ⌜ (end ≤ length (now deadlines)) × (end % 3 ≡ 0) ⌝ }
     ensures { λ r. ⌜ Sought (now (deadlines .entry)) end bound r ⌝ }

@@ -12,27 +12,19 @@ use Rattle.keeper.specs.Searched.{periodSet}
 use Rattle.keeper.proofs.Orders.{by-code, past-by-code, rank-by-code}
 use Rattle.keeper.proofs.follow.Statement.{statement}
 use Rattle.keeper.proofs.follow.Tie as tie
-use Rattle.keeper.proofs.follow.Reads as reads
-use Rattle.keeper.proofs.follow.Lts as lts
-use Rattle.keeper.proofs.period.Reads as period-reads
 
--- src/lib.rt:137:14
 mul-at : tie.Need-mul-at
 mul-at c = search needs
 
--- src/lib.rt:137:30
 cast-at : tie.Need-cast-at
 cast-at c = search needs
 
--- src/lib.rt:137:14
 add-at : tie.Need-add-at
 add-at c = search needs
 
--- src/lib.rt:139:32
 period-requires : tie.Need-period-requires
 period-requires c κs = search needs
 
--- src/lib.rt:139:25
 add-deadlines : tie.Need-add-deadlines
 add-deadlines c =
     let a = c .before .before .before in
@@ -40,31 +32,25 @@ add-deadlines c =
     let e = ap (λ (b : Bool). b && leb idle (a .args .time + p)) (lt-ltb (a .args .code) 56 (c .before .if1 .taken)) in
     omega (arith, c .period .ensures, leb-false idle (a .args .time + p) (sym e ∙ past-by-code (a .args .t3) (a .args .time) (a .args .code) (a .pre .1) ∙ a .pre .2))
 
--- src/lib.rt:139:9
 mul-deadlines : tie.Need-mul-deadlines
 mul-deadlines c = search needs
 
--- src/lib.rt:139:9
 slice-write-deadlines : tie.Need-slice-write-deadlines
 slice-write-deadlines c =
     let a = c .before .before .before in
     omega (arith, rank-by-code (a .args .code) (a .pre .1), a .pre .0)
 
--- src/lib.rt:141:9
 mul-deadlines-2 : tie.Need-mul-deadlines-2
 mul-deadlines-2 c = search needs
 
--- src/lib.rt:141:9
 slice-write-deadlines-2 : tie.Need-slice-write-deadlines-2
 slice-write-deadlines-2 c =
     let a = c .before .before in
     omega (arith, rank-by-code (a .args .code) (a .pre .1), a .pre .0)
 
--- src/lib.rt:133:1
 same-length : tie.Need-same-length
 same-length c = search needs
 
--- src/lib.rt:133:1
 returns : tie.Need-returns
 returns c =
     let a = c .before .before .before in
@@ -74,11 +60,9 @@ returns c =
     ∙ sym (ap (λ (b : Bool). cond b (set d k (a .args .time + periodSet (a .args .code) (a .args .t3))) (set d k idle)) (lt-ltb (a .args .code) 56 (c .before .if1 .taken)))
     ∙ by-code d (a .args .link) (a .args .t3) (a .args .time) (a .args .code) (a .pre .1)
 
--- src/lib.rt:133:1
 same-length-2 : tie.Need-same-length-2
 same-length-2 c = search needs
 
--- src/lib.rt:133:1
 returns-2 : tie.Need-returns-2
 returns-2 c =
     let a = c .before .before in

@@ -12,13 +12,7 @@ use Rattle.keeper.proofs.Calls.{Asked, due-past, due-passes, due-refuse
 use Rattle.keeper.proofs.Due.{at-end, inside-end, names-none, names-found}
 use Rattle.keeper.proofs.sscf_deadlines_due.Statement.{statement}
 use Rattle.keeper.proofs.sscf_deadlines_due.Tie as tie
-use Rattle.keeper.proofs.sscf_deadlines_due.Reads as reads
-use Rattle.keeper.proofs.sscf_deadlines_due.Lts as lts
-use Rattle.keeper.proofs.bound.Reads as bound-reads
-use Rattle.keeper.proofs.due_checked.Reads as due-checked-reads
-use Rattle.keeper.proofs.first_below.Reads as first-below-reads
 
--- src/lib.rt:291:9
 -- past the checks
 passing : (c : tie.Else1) → let a = c .before .before .before .before .before .args in first (dueChecks (a .deadlines .now) (a .periods .now) (a .time)) ≡ passed
 passing c = let a = c .before .before .before .before .before .args in due-passes (a .deadlines .now) (a .periods .now) (a .time) (sym (c .before .due-checked .ensures) ∙ c .if1 .left)
@@ -41,41 +35,32 @@ inside c =
 due-checked-requires : tie.Need-due-checked-requires
 due-checked-requires c κs = search needs
 
--- src/lib.rt:293:9
 same-length : tie.Need-same-length
 same-length c = search needs
 
--- src/lib.rt:293:9
 returns : tie.Need-returns
 returns c =
     let a = c .before .before .before .before .before .args in
     due-refused (a .deadlines .now) (a .periods .now) (a .time) (c .before .due-checked .result) (c .before .due-checked .ensures) (c .if1 .taken)
 
--- src/lib.rt:299:16
 mul-last : tie.Need-mul-last
 mul-last c = search needs
 
--- src/lib.rt:300:51
 bound-requires : tie.Need-bound-requires
 bound-requires c κs = search needs
 
--- src/lib.rt:300:9
 first-below-requires : tie.Need-first-below-requires
 first-below-requires c κs = let f = past (c .before .before) .lists in (omega (arith, f .full), omega arith)
 
--- src/lib.rt:302:9
 mul-deadlines : tie.Need-mul-deadlines
 mul-deadlines c = let f = past (c .before .before .before .before) .lists in omega (arith, f .full, f .most)
 
--- src/lib.rt:302:9
 slice-write-deadlines : tie.Need-slice-write-deadlines
 slice-write-deadlines c = let f = past (c .before .before .before .before) .lists in omega (arith, f .full, f .most)
 
--- src/lib.rt:303:9
 same-length-2 : tie.Need-same-length-2
 same-length-2 c = search needs
 
--- src/lib.rt:303:9
 returns-2 : tie.Need-returns-2
 returns-2 c =
     let a = c .before .before .before .before .before .before .before .before .before .args in
@@ -83,43 +68,33 @@ returns-2 c =
     due-named (a .deadlines .now) (a .periods .now) (a .time) (answered 0 0 0) (set (a .deadlines .now) (3 * n) (a .time)) (passing (c .before .before .before .before))
     (names-none (a .deadlines .now) n (a .time) (at-end (a .deadlines .now) (3 * n) (boundOf (a .time)) (c .before .first-below .result) (found (c .before)) (c .if2 .taken)))
 
--- src/lib.rt:309:5
 mul-deadlines-2 : tie.Need-mul-deadlines-2
 mul-deadlines-2 c = let f = past (c .before .before .before .before) .lists in omega (arith, f .full, f .most, inside c .inside)
 
--- src/lib.rt:309:5
 slice-write-deadlines-2 : tie.Need-slice-write-deadlines-2
 slice-write-deadlines-2 c = let f = past (c .before .before .before .before) .lists in omega (arith, f .full, f .most, inside c .inside)
 
--- src/lib.rt:310:5
 mul-deadlines-3 : tie.Need-mul-deadlines-3
 mul-deadlines-3 c = let f = past (c .before .before .before .before) .lists in omega (arith, f .full, f .most)
 
--- src/lib.rt:310:5
 slice-write-deadlines-3 : tie.Need-slice-write-deadlines-3
 slice-write-deadlines-3 c = let f = past (c .before .before .before .before) .lists in simp length-set (omega (arith, f .full, f .most))
 
--- src/lib.rt:313:18
 cast-t18 : tie.Need-cast-t18
 cast-t18 c = search needs
 
--- src/lib.rt:313:46
 cast-t19 : tie.Need-cast-t19
 cast-t19 c = search needs
 
--- src/lib.rt:313:18
 add-t20 : tie.Need-add-t20
 add-t20 c = search needs
 
--- src/lib.rt:314:15
 cast-t22 : tie.Need-cast-t22
 cast-t22 c = let f = past (c .before .before .before .before) .lists in omega (arith, f .full, f .most, inside c .inside)
 
--- src/lib.rt:287:1
 same-length-3 : tie.Need-same-length-3
 same-length-3 c = search needs
 
--- src/lib.rt:287:1
 returns-3 : tie.Need-returns-3
 returns-3 c =
     let a = c .before .before .before .before .before .before .before .before .before .args in

@@ -13,7 +13,6 @@ use Rattle.keeper.proofs.Lists.{length-followed}
 use Rattle.keeper.proofs.sscf_deadlines_order.Statement.{statement}
 use Rattle.keeper.proofs.sscf_deadlines_order.Tie as tie
 
--- src/lib.rt:201:9
 -- past the checks
 passing : (c : tie.Else1) → let a = c .before .before .before .before .before .args in first (orderChecks (a .deadlines .now) (a .periods .now) (a .link) (a .code) (a .time)) ≡ passed
 passing c = let a = c .before .before .before .before .before .args in order-passes (a .deadlines .now) (a .periods .now) (a .link) (a .code) (a .time) (sym (c .before .order-checked .ensures) ∙ c .if1 .left)
@@ -24,54 +23,43 @@ past c = let a = c .before .before .before .before .before .args in order-past (
 order-checked-requires : tie.Need-order-checked-requires
 order-checked-requires c κs = search needs
 
--- src/lib.rt:203:9
 same-length : tie.Need-same-length
 same-length c = search needs
 
--- src/lib.rt:203:9
 returns : tie.Need-returns
 returns c =
     let a = c .before .before .before .before .before .args in
     order-refused (a .deadlines .now) (a .periods .now) (a .link) (a .code) (a .time) (c .before .order-checked .result) (c .before .order-checked .ensures) (c .if1 .taken)
 
--- src/lib.rt:206:27
--- src/lib.rt:206:43
 mul-follow : tie.Need-mul-follow
 mul-follow c = search needs
 
--- src/lib.rt:206:43
 shared-slice-read-follow : tie.Need-shared-slice-read-follow
 shared-slice-read-follow c = omega (arith, past (c .before .before) .known)
 
--- src/lib.rt:206:5
 follow-requires : tie.Need-follow-requires
 follow-requires c κs =
     let f = past (c .before .before) in
     (omega (arith, f .known, f .lists .full), f .order, f .fits)
 
--- src/lib.rt:207:16
 mul-last : tie.Need-mul-last
 mul-last c = search needs
 
--- src/lib.rt:208:5
 mul-deadlines : tie.Need-mul-deadlines
 mul-deadlines c =
     let a = c .before .before .before .before .before .before .before .before .before .before .args in
     let f = past (c .before .before .before .before .before) .lists in
     omega (arith, f .most, f .full, ap length (c .before .before .follow .ensures) ∙ length-followed (orderOf (a .code)) (a .deadlines .now) (a .link) (ownPeriod (a .periods .now) (a .link)) (a .time))
 
--- src/lib.rt:208:5
 slice-write-deadlines : tie.Need-slice-write-deadlines
 slice-write-deadlines c =
     let a = c .before .before .before .before .before .before .before .before .before .before .args in
     let f = past (c .before .before .before .before .before) .lists in
     omega (arith, f .most, f .full, ap length (c .before .before .follow .ensures) ∙ length-followed (orderOf (a .code)) (a .deadlines .now) (a .link) (ownPeriod (a .periods .now) (a .link)) (a .time))
 
--- src/lib.rt:191:1
 same-length-2 : tie.Need-same-length-2
 same-length-2 c = search needs
 
--- src/lib.rt:191:1
 returns-2 : tie.Need-returns-2
 returns-2 c =
     let a = c .before .before .before .before .before .before .before .before .before .before .args in
