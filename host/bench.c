@@ -145,7 +145,7 @@ enum { CHANGEOVERS = sizeof changeovers / sizeof *changeovers };
  * no order.
  */
 
-enum { TIMERS = 3 * SSCF_LINKS_MAX, ALL_TIMERS = TIMERS + 1 };
+enum { TIMERS = 3 * SSCF_LINKS_MAX, NUMBERS = SSCF_DEADLINES(SSCF_LINKS_MAX) };
 
 struct deadlines_case {
     const char *title;
@@ -167,8 +167,8 @@ enum { KEEPERS = sizeof keepers / sizeof *keepers };
 
 /*
  * The rows: each case of a step that is one alone, behind them all that are mixed, then a burst and
- * its single calls, the changeover calls, and the deadlines. The mixed kinds are counted and timed over the
- * whole of their order. Of equal calls fewer are enough, and the shorter a stretch the likelier
+ * its single calls, the changeover calls, and the deadlines. The mixed kinds are counted and timed
+ * over the whole of their order. Of equal calls fewer are enough, and the shorter a stretch the likelier
  * that a busy machine leaves it in peace.
  */
 
@@ -441,12 +441,13 @@ static int read_agreed(void)
 }
 
 /*
- * The deadlines of a row. The earliest is that of the case, and it is put back before every call,
- * as the one number that a call alters beside the last time; the others lie 1 to 767 behind it.
+ * The deadlines of a row. The earliest is that of the case, and the others lie 1 to 767 behind it.
+ * It is put back before every call, since a question alters it and nothing else; an order alters
+ * what it has altered before, or it.
  */
 
 static const struct deadlines_case *keeper;
-static uint64_t deadlines[ALL_TIMERS], periods[SSCF_LINKS_MAX];
+static uint64_t deadlines[NUMBERS], periods[SSCF_LINKS_MAX];
 
 enum { TIME = 1000000, EARLIEST = TIMERS * 200 / SSCF_LINKS_MAX + 1 }; /* of link 200, T2 */
 
@@ -472,25 +473,25 @@ static uint64_t *put_back(void)
 
 static int order_agreed(void)
 {
-    static uint64_t second[ALL_TIMERS];
+    static uint64_t second[NUMBERS];
 
     memcpy(second, put_back(), sizeof second);
-    return sscf_deadlines_order(deadlines, ALL_TIMERS, periods, SSCF_LINKS_MAX, keeper->link,
+    return sscf_deadlines_order(deadlines, NUMBERS, periods, SSCF_LINKS_MAX, keeper->link,
                                 keeper->code, TIME) == SSCF_ACCEPTED &&
-           second_deadlines_order(second, ALL_TIMERS, periods, SSCF_LINKS_MAX, keeper->link,
+           second_deadlines_order(second, NUMBERS, periods, SSCF_LINKS_MAX, keeper->link,
                                   keeper->code, TIME) == SSCF_ACCEPTED &&
            memcmp(deadlines, second, sizeof second) == 0;
 }
 
 static int due_agreed(void)
 {
-    static uint64_t second[ALL_TIMERS];
+    static uint64_t second[NUMBERS];
     struct sscf_due_answer a;
     struct second_due_answer b;
 
     memcpy(second, put_back(), sizeof second);
-    a = sscf_deadlines_due(deadlines, ALL_TIMERS, periods, SSCF_LINKS_MAX, TIME);
-    b = second_deadlines_due(second, ALL_TIMERS, periods, SSCF_LINKS_MAX, TIME);
+    a = sscf_deadlines_due(deadlines, NUMBERS, periods, SSCF_LINKS_MAX, TIME);
+    b = second_deadlines_due(second, NUMBERS, periods, SSCF_LINKS_MAX, TIME);
     return a.refusal == SSCF_ACCEPTED && a.expired == keeper->code && a.link == keeper->link &&
            b.refusal == SSCF_ACCEPTED && b.expired == keeper->code && b.link == keeper->link &&
            memcmp(deadlines, second, sizeof second) == 0;
@@ -587,7 +588,7 @@ static int due_agreed(void)
     static inline uint32_t name##_turn(unsigned call)                                          \
     {                                                                                          \
         (void)call;                                                                            \
-        return order(put_back(), ALL_TIMERS, periods, SSCF_LINKS_MAX, keeper->link,            \
+        return order(put_back(), NUMBERS, periods, SSCF_LINKS_MAX, keeper->link,            \
                      keeper->code, TIME);                                                      \
     }                                                                                          \
     TURNS(name, name##_turn)
@@ -595,7 +596,7 @@ static int due_agreed(void)
 #define QUESTIONS(name, type, due)                                                             \
     static inline uint32_t name##_turn(unsigned call)                                          \
     {                                                                                          \
-        type answer = due(put_back(), ALL_TIMERS, periods, SSCF_LINKS_MAX, TIME);              \
+        type answer = due(put_back(), NUMBERS, periods, SSCF_LINKS_MAX, TIME);              \
                                                                                                \
         (void)call;                                                                            \
         return answer.refusal + answer.expired + answer.link;                                  \

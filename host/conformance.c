@@ -2070,28 +2070,47 @@ static void fresh_deadlines(void)
     CHECK(as_due());
 }
 
-/* Every code, for the first link, the last and the one behind it, on lists of one, two and all. */
+/* The same with every timer running, each until another time. */
+static void set_up_running(size_t new_links)
+{
+    size_t n;
+
+    set_up_deadlines(new_links);
+    for (n = 0; n < 3 * links; n++)
+        keeper.deadlines[n] = due.deadlines[n] = 100 + n;
+}
+
+static void every_code(unsigned link)
+{
+    unsigned code;
+
+    for (code = 0; code < 256; code++) {
+        turn = 1000 * link + code;
+        set_up_running(links);
+        order_is((unsigned)links, code, 7, SSCF_DEADLINES_REFUSED_ORDER);
+        order_is(0xFFFF, code, 7, SSCF_DEADLINES_REFUSED_ORDER);
+        if (code == SET_T1 || code == SET_T2)
+            ordered(link, code, 7, code == SET_T1 ? 5007 : 30007);
+        else if (code == SET_T3)
+            ordered(link, code, 7, link % 2 == 0 ? 8 : 60007);
+        else if (code >= RESET_T1 && code <= RESET_T3)
+            ordered(link, code, 7, ones);
+        else
+            order_is(link, code, 7, SSCF_DEADLINES_REFUSED_ORDER);
+    }
+}
+
+/* Every code, for the first link, one between, the last and the one behind it, on lists of one, two and all. */
 static void timer_orders_kept(void)
 {
     static const size_t sizes[] = {1, 2, MANY};
-    unsigned n, code, last;
+    unsigned n;
 
     for (n = 0; n < 3; n++) {
-        last = (unsigned)sizes[n] - 1;
-        for (code = 0; code < 256; code++) {
-            turn = code;
-            set_up_deadlines(sizes[n]);
-            order_is(last + 1, code, 7, SSCF_DEADLINES_REFUSED_ORDER);
-            order_is(0xFFFF, code, 7, SSCF_DEADLINES_REFUSED_ORDER);
-            if (code == SET_T1 || code == SET_T2)
-                ordered(last, code, 7, code == SET_T1 ? 5007 : 30007);
-            else if (code == SET_T3)
-                ordered(last, code, 7, last % 2 == 0 ? 8 : 60007);
-            else if (code >= RESET_T1 && code <= RESET_T3)
-                ordered(last, code, 7, ones);
-            else
-                order_is(last, code, 7, SSCF_DEADLINES_REFUSED_ORDER);
-        }
+        set_up_running(sizes[n]);
+        every_code(0);
+        every_code((unsigned)links / 2);
+        every_code((unsigned)links - 1);
     }
 }
 
@@ -2140,7 +2159,7 @@ static void timers_due_in_order(void)
     nothing_due(61000);
 }
 
-/* Every place, alone and with all others due one millisecond later. */
+/* Every place, alone, and with all before it due a millisecond later and all behind it at the same time. */
 static void every_timer_due(void)
 {
     unsigned n, k;
