@@ -5,9 +5,9 @@
  *
  *     clock [FACTOR]
  *
- * Both ends are started, prove and come into service, and one is stopped. With a FACTOR, 2 to 1000,
- * time runs so many times as fast as the real one, and a last part follows: the line is cut, T1
- * makes another attempt, and T2 ends it. Without one that part, 30 seconds by T2, is left out.
+ * Both ends are started, prove and come into service, and one is stopped. With a FACTOR above 1 and
+ * up to 1000 time runs so many times as fast as the real one, and a last part follows: the line is
+ * cut, T1 makes another attempt, and T2 ends it. Else that part, 30 seconds by T2, is left out.
  *
  * examples/clock.txt is what it prints with a FACTOR, on a slow machine too, if only both ends are
  * in service within T2: in 3 real seconds with 10, in 30 real milliseconds with 1000.
@@ -223,9 +223,11 @@ static void act(unsigned link, unsigned code)
 
 int main(int words, char **word)
 {
+    char *end = NULL;
+
     if (words > 1)
-        factor = strtoul(word[1], NULL, 10);
-    if (words > 2 || factor < 1 || factor > FACTOR_MAX)
+        factor = strtoul(word[1], &end, 10);
+    if (words > 2 || (end != NULL && *end != '\0') || factor < 1 || factor > FACTOR_MAX)
         fail("usage", "clock [FACTOR], 1 to 1000");
     if (sscf_version() != SSCF_VERSION_NUMBER)
         fail("header and library", "not of one version");
