@@ -26,7 +26,7 @@
  * nothing back; every call returns, whatever octets it is given. All it knows of the links stands
  * in the table, which is the host's: it may be copied, stored and carried to another process, where
  * one copy alone goes on, the latest, whole. What the calls promise, beside each of them below, is
- * proved of the code, for every table, every event and every message.
+ * proved of the code, for every table, every event, every message and every list.
  *
  * Of the C library it needs memmove, and for DEADLINES memset; a later version may also need
  * memcpy, memcmp or bcmp. A step or a burst takes at most 256 octets of stack, a call of DEADLINES
@@ -128,7 +128,7 @@
  *
  * Where the stack is short: a step takes 168 octets and a burst 248, by the listing. glibc's
  * memmove takes none, but where it is bound lazily its first call runs the dynamic loader, which
- * took 3 KB with 0.1.1, on a painted stack.
+ * took 3 KB with 0.1.1, on a painted stack; memset can be bound so too.
  */
 #ifndef SSCF_H
 #define SSCF_H
@@ -830,7 +830,10 @@ struct sscf_changeover_answer sscf_changeover_read(const uint8_t *octets, size_t
  * - to look at the refusals. A question that is refused answers no expiry, as if nothing were due,
  *   and an order that is refused is lost: its timer would never be set, or never stopped.
  * - to keep the list beside its table: both are made fresh together, and a copy of one goes with a
- *   copy of the other. The calls believe the deadlines and the last time that they find.
+ *   copy of the other. The calls believe the deadlines and the last time that they find. These are
+ *   of one clock: where the list goes on by another, as CLOCK_MONOTONIC of another machine is or of
+ *   this one started anew, the host first moves the last time and every deadline that runs by what
+ *   the two clocks differ.
  *
  * A host of four links, with sscf_host.h. Its clock, time_now, is in milliseconds, and wait_until,
  * hand_on_signals and give_up are its own too. follow goes behind every step that is accepted:
@@ -863,6 +866,8 @@ struct sscf_changeover_answer sscf_changeover_read(const uint8_t *octets, size_t
  *                    .expired != 0) {
  *             sscf_put_bare_event(expiry, sizeof expiry, due.link, due.expired);
  *             answer = sscf_step(table, sizeof table, expiry, sizeof expiry, out, sizeof out);
+ *             if (answer.refusal != SSCF_ACCEPTED)
+ *                 give_up(sscf_refusal_name(answer.refusal));
  *             follow(answer, time);
  *             hand_on_signals(answer);
  *         }
