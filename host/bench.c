@@ -248,10 +248,16 @@ struct kind {
 
 static struct kind kinds[CASES];
 static uint8_t order[ORDER];
-static uint8_t table[SSCF_TABLE_OCTETS_MAX], out[SSCF_OUTPUT_OCTETS];
+static uint8_t table[SSCF_TABLE_OCTETS_MAX];
 static uint8_t numbers[SSCF_LINKS_MAX][2]; /* of the links, as an event has them */
 static size_t table_octets;
 static unsigned last_link; /* links are a power of two, so that this is a mask too */
+
+/*
+ * What is written begins a page. Where a linker lays it is chance, and a message that is copied
+ * over the end of a page takes any machine twice as long.
+ */
+static uint8_t out[SSCF_OUTPUT_OCTETS] __attribute__((aligned(4096)));
 
 static void set_up_kind(struct kind *kind, const struct bench_case *c)
 {
