@@ -795,34 +795,36 @@ struct sscf_changeover_answer sscf_changeover_read(const uint8_t *octets, size_t
  *
  * A step orders timers set and reset, and a host with a timer wheel of its own follows the orders
  * there. Or it leaves that to these three calls, and has only to know the time: they keep for every
- * link when T1, T2 and T3 are due, in a list that is the host's, follow an order at a time, and
- * name what is due at a time, one timer for each call. Times are milliseconds of a clock that never
- * goes back, counted from any moment: CLOCK_MONOTONIC will do.
+ * link when T1, T2 and T3 are due, in a list that is the host's, follow an order as of a given
+ * time, and name what is due by a given time, one timer for each call. Times are milliseconds of a
+ * clock that never goes back, counted from any moment: CLOCK_MONOTONIC will do.
  *
  * The list has 3n + 1 numbers for n links, 1 to 256:
  *
  *      3 x link      the deadline of T1, or SSCF_NOT_RUNNING
  *      3 x link + 1  the deadline of T2, or SSCF_NOT_RUNNING
  *      3 x link + 2  the deadline of T3, or SSCF_NOT_RUNNING
- *      3 x n         the last time given
+ *      3 x n         the last time given to a call that was accepted, at first 0
  *
  * A timer that is set is due its period after the time of the order, whether it ran already or not:
- * T1 after 5 seconds and T2 after 30, by Q.2140's Table 5. T3 has a period for each link, in a list
- * of n numbers, 1 to 60,000, which the host may alter between calls; what runs keeps its deadline.
- * A timer is due when its deadline is at or before the time.
+ * T1 after 5 seconds and T2 after 30, by Q.2140's Table 5, always. T3 has a period for each link,
+ * in a list of n numbers, 1 to 60,000, which the host may alter between calls; what runs keeps its
+ * deadline. A link so fast that its T3 should be shorter has 1. A timer is due when its deadline is
+ * at or before the time.
  *
  * What is left to the host:
  *
- * - the clock, and waking up. The least number of the list, the last one left out, is the time at
- *   which to ask next, SSCF_NOT_RUNNING for none: sscf_next_deadline of sscf_host.h finds it. A
- *   timer that is set runs from the time given with its order, not from when it should have been
- *   named. So whatever the host wakes up late is added to each T3, and all of proving must still
- *   fit into T2.
+ * - the clock, and waking up. The least of the first 3n numbers is the time at which to ask next,
+ *   SSCF_NOT_RUNNING if no timer runs: sscf_next_deadline of sscf_host.h finds it. A timer that is
+ *   set runs from the time given with its order, not from when it should have been named. So
+ *   whatever the host wakes up late is added to each T3, and all of proving must still fit into T2.
  * - to follow every timer order of an accepted step or burst, resets too, in the order written. One
  *   time read for a turn will do for all that the host does in it.
- * - to hand in at once, before any other event, what was named: it is marked not running here with
- *   the answer, and in the record with the expiry's own step. An expiry that is kept back may be
- *   that of a timer that was stopped and set anew meanwhile, and nothing tells the two apart.
+ * - to hand in at once what was named, before any other event and before the next question: it is
+ *   marked not running here with the answer, and in the record with the expiry's own step. An
+ *   expiry that is kept back may be that of a timer that was stopped meanwhile, and is refused by
+ *   7, as T3's behind T2's where both were due and named; or of one that was set anew since, and
+ *   nothing tells the two apart.
  * - to ask until nothing is due, whether events that came of the expiries are stepped in between or
  *   behind. Asked again and again at one time, with no order between, every timer that is due is
  *   named exactly once: the earliest deadline first, of equal ones the lower link's, and of one
@@ -832,31 +834,36 @@ struct sscf_changeover_answer sscf_changeover_read(const uint8_t *octets, size_t
  * - to keep the list beside its table: both are made fresh together, and a copy of one goes with a
  *   copy of the other. The calls believe the deadlines and the last time that they find. These are
  *   of one clock: where the list goes on by another, as CLOCK_MONOTONIC of another machine is or of
- *   this one started anew, the host first moves the last time and every deadline that runs by what
- *   the two clocks differ.
+ *   this one started anew, the host first moves every deadline that runs by what the two clocks
+ *   differ, one that would fall below 0 to 0, and puts 0 in the place of the last time.
  *
- * A host of four links, with sscf_host.h. Its clock, time_now, is in milliseconds, and wait_until,
- * hand_on_signals and give_up are its own too. follow goes behind every step that is accepted:
+ * A host of four links, with sscf_host.h. table, of 64 octets, and out are its own, and so are
+ * time_now, its clock in milliseconds, hand_on_signals, fail, and wait_until, which comes back once
+ * a time has come, or sooner: meanwhile it steps what SSCOP, the users and management have for the
+ * links, with follow behind each step or burst, by the octets that this answered.
  *
- *     uint64_t deadlines[SSCF_DEADLINES(4)], periods[4] = {13, 13, 13, 13};
+ *     static uint64_t deadlines[SSCF_DEADLINES(4)], periods[4] = {13, 13, 13, 13};
  *
- *     void follow(struct sscf_answer answer, uint64_t time)
+ *     static void follow(size_t octets, uint64_t time)
  *     {
  *         const uint8_t *signal;
  *         uint32_t refusal;
  *
- *         for (signal = sscf_first_signal(out, answer); signal != NULL;
- *              signal = sscf_next_signal(out, answer, signal)) {
- *             if (signal[4] < SSCF_SIGNAL_SET_T1)
+ *         for (signal = sscf_first_record(out, octets); signal != NULL;
+ *              signal = sscf_next_record(out, octets, signal)) {
+ *             uint8_t code = signal[SSCF_HEAD_AT_CODE];
+ *
+ *             if (code < SSCF_SIGNAL_SET_T1)
  *                 continue;
- *             refusal = sscf_deadlines_order(deadlines, SSCF_DEADLINES(4), periods, 4, signal[3],
- *                                            signal[4], time);
+ *             refusal = sscf_deadlines_order(deadlines, SSCF_DEADLINES(4), periods, 4,
+ *                                            (uint16_t)sscf_get_16(signal + SSCF_HEAD_AT_LINK),
+ *                                            code, time);
  *             if (refusal != SSCF_ACCEPTED)
- *                 give_up(sscf_deadlines_refusal_name(refusal));
+ *                 fail(sscf_deadlines_refusal_name(refusal));
  *         }
  *     }
  *
- *     void ask(uint64_t time)
+ *     static void hand_in_due(uint64_t time)
  *     {
  *         struct sscf_due_answer due;
  *         uint8_t expiry[SSCF_HEAD_OCTETS];
@@ -867,32 +874,31 @@ struct sscf_changeover_answer sscf_changeover_read(const uint8_t *octets, size_t
  *             sscf_put_bare_event(expiry, sizeof expiry, due.link, due.expired);
  *             answer = sscf_step(table, sizeof table, expiry, sizeof expiry, out, sizeof out);
  *             if (answer.refusal != SSCF_ACCEPTED)
- *                 give_up(sscf_refusal_name(answer.refusal));
- *             follow(answer, time);
- *             hand_on_signals(answer);
+ *                 fail(sscf_refusal_name(answer.refusal));
+ *             follow(answer.octets, time);
+ *             hand_on_signals(out, answer);
  *         }
  *         if (due.refusal != SSCF_ACCEPTED)
- *             give_up(sscf_deadlines_refusal_name(due.refusal));
+ *             fail(sscf_deadlines_refusal_name(due.refusal));
  *     }
  *
- *     void run(void)
+ *     static void run(void)
  *     {
- *         uint64_t next;
- *
- *         while ((next = sscf_next_deadline(deadlines, SSCF_DEADLINES(4))) != SSCF_NOT_RUNNING) {
- *             wait_until(next);
- *             ask(time_now());
+ *         sscf_fresh(table, sizeof table, SSCF_N1_DEFAULT);
+ *         sscf_deadlines_fresh(deadlines, SSCF_DEADLINES(4));
+ *         for (;;) {
+ *             wait_until(sscf_next_deadline(deadlines, SSCF_DEADLINES(4)));
+ *             hand_in_due(time_now());
  *         }
  *     }
  *
- * Before all this, sscf_deadlines_fresh(deadlines, SSCF_DEADLINES(4)). examples/clock.c of the
- * sources is a whole host with a real clock.
+ * examples/clock.c of the sources is a whole host with a real clock.
  *
  * The calls keep nothing. A program that makes no other call links nothing else of the library. As
  * with a step, each pointer is good for as many numbers as the count beside it says and aligned for
  * them, the deadlines for writing too; the two lists do not overlap, nobody else touches them
- * during a call, and where the lists are refused neither is read, so that any pointer will do. What
- * is said here of the answers and of the list is proved of the code, for all numbers in both lists.
+ * during a call, and a count of 0 may come with any pointer. What is said here of the answers and
+ * of the list is proved of the code, for all numbers in both lists.
  */
 
 /* The numbers of a list of deadlines, by the number of links. */
@@ -913,7 +919,7 @@ enum sscf_deadlines_refusal {
     SSCF_DEADLINES_REFUSED_LISTS = 1,   /* not 3n + 1 deadlines and n periods, n from 1 to 256 */
     SSCF_DEADLINES_REFUSED_PERIOD = 2,  /* a period, of any link, is 0 or above 60,000 */
     SSCF_DEADLINES_REFUSED_ORDER = 3,   /* an order only: no such link, or no timer order's code */
-    SSCF_DEADLINES_REFUSED_TIME = 4,    /* the time is before the last one given */
+    SSCF_DEADLINES_REFUSED_TIME = 4,    /* the time is before the last one in the list */
     SSCF_DEADLINES_REFUSED_DEADLINE = 5 /* a set order only: it would be due at 2^64 - 1 or later */
 };
 
@@ -924,9 +930,10 @@ enum sscf_deadlines_refusal {
 uint32_t sscf_deadlines_fresh(uint64_t *deadlines, size_t count);
 
 /*
- * Follows a timer order for a link at a time: the code is that of a signal, SSCF_SIGNAL_SET_T1 to
- * SSCF_SIGNAL_RESET_T3. Answers SSCF_ACCEPTED; that timer's deadline and the last time given are
- * then new, and all other numbers as they were. A reset of a timer that does not run is accepted.
+ * Follows a timer order for one link, given at this time: the code is that of a signal,
+ * SSCF_SIGNAL_SET_T1 to SSCF_SIGNAL_RESET_T3. Answers SSCF_ACCEPTED; that timer's deadline and the
+ * last time are then new, and all other numbers as they were. A reset of a timer that does not run
+ * is accepted. C cuts a larger link or code before the call sees it: link 65,536 arrives as 0.
  */
 uint32_t sscf_deadlines_order(uint64_t *deadlines, size_t count, const uint64_t *periods,
                               size_t links, uint16_t link, uint8_t code, uint64_t time);
@@ -940,9 +947,9 @@ struct sscf_due_answer {
 };
 
 /*
- * Names the earliest timer that is due at a time and marks it not running, or says that none is
- * due, which it says exactly if none is. Either way the time is then the last one given, and all
- * other numbers are as they were.
+ * Names the earliest timer that is due at this time and marks it not running, or says that none is
+ * due, which it says exactly if none is. Either way the time is then the last one in the list, and
+ * all other numbers are as they were.
  */
 struct sscf_due_answer sscf_deadlines_due(uint64_t *deadlines, size_t count,
                                           const uint64_t *periods, size_t links, uint64_t time);

@@ -171,7 +171,7 @@ static inline const uint8_t *sscf_next_signal(const uint8_t *out, struct sscf_an
  * DEADLINES
  *
  * The earliest of a list, when to ask next what is due; SSCF_NOT_RUNNING if no timer runs. The last
- * number, the last time given, is none of them.
+ * number, the last time, is none of them.
  */
 static inline uint64_t sscf_next_deadline(const uint64_t *deadlines, size_t count)
 {
