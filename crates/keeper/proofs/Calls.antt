@@ -1,18 +1,18 @@
 -- What the calls come to, by their checks: refused by one, or past all of them. Assumes nothing.
 use Prim.Native.Nat.{ℕ, zero, suc, _+_, _-_, _*_, _/_, _<_, _≤_}
 use native.Mathlib.Omega.{arith}
-use mathlib.Core.Path.{_≡_, refl, sym, ap, subst, _∙_}
-use mathlib.Core.Bool.{Bool, true, false, cond, not, _||_, true≢false}
+use mathlib.Core.Path.{_≡_, refl, sym, ap, _∙_}
+use mathlib.Core.Bool.{Bool, true, false, cond, not, _||_}
 use mathlib.Core.List.{List, [], _∷_, _++_}
 use lib.Dec.{eqb, ltb, leb}
 use lib.ListN.{length, getD}
-use borrow.Author.Tests.{eq-eqb, ne-eqb, lt-ltb, le-ltb, eqb-true, eqb-false, ltb-false, leb-true, leb-false, le-leb, lt-leb, not-true, not-false}
+use borrow.Author.Tests.{eqb-true, eqb-false, ltb-false, leb-true, leb-false, le-leb, lt-leb, not-true, not-false}
 use Rattle.unit.specs.Checks.{Check, Verdict, passed, refused, first, numberOf}
 use Rattle.unit.proofs.Checks.{clear, none-refuses, refusing}
 use Rattle.octet.proofs.Branches.{neither}
 use Rattle.keeper.specs.declared.DueAnswer.{DueAnswer}
 use Rattle.keeper.specs.Deadlines.{idle, lastTime, withTime, orderOf, followed}
-use Rattle.keeper.specs.Calls.{badLists, badPeriods, noOrder, pastAll, ownPeriod, listChecks, dueChecks, orderChecks, Kept, keeping, kept, freshDeadlines, freshCall, orderCall, answered, Names, Tells, DueCall}
+use Rattle.keeper.specs.Calls.{badLists, badPeriods, noOrder, pastAll, ownPeriod, listChecks, dueChecks, orderChecks, keeping, kept, freshDeadlines, freshCall, orderCall, answered, Names, DueCall}
 
 -- GOOD LISTS
 pub few : (n : ℕ) → eqb n 0 || ltb 256 n ≡ false → n ≤ 256

@@ -1,20 +1,19 @@
 -- What the search finds is the earliest due, no two are, and how what is due changes as one is named. Assumes nothing.
-use Prim.Native.Nat.{ℕ, _+_, _*_, _/_, _%_, _<_, _≤_}
+use Prim.Native.Nat.{ℕ, _+_, _*_, _/_, _%_, _<_}
 use native.Mathlib.Omega.{arith}
-use mathlib.Core.Path.{_≡_, refl, sym, ap, subst, _∙_}
+use mathlib.Core.Path.{_≡_, refl, sym, ap}
 use mathlib.Core.Bool.{Bool, true, false}
 use mathlib.Core.Logic.{_⊎_, inl, inr, ⊎-elim}
 use mathlib.Core.List.{List}
 use lib.Dec.{ltb, eqb}
-use lib.ListN.{length, getD, set}
+use lib.ListN.{getD, set}
 use borrow.Author.Tests.{ltb-true, ltb-false, eqb-true, eqb-false}
 use Rattle.table6.specs.Cell.{Timer}
-use Rattle.keeper.specs.declared.DueAnswer.{DueAnswer}
-use Rattle.keeper.specs.Deadlines.{idle, rank, placeOf, deadline, Runs, withDeadline, withTime, expiry}
-use Rattle.keeper.specs.Due.{Due, Before, EarliestDue, NothingDue, Named, nothing, one, Rightly, left, expired, linkOf}
+use Rattle.keeper.specs.Deadlines.{idle, rank, placeOf, deadline}
+use Rattle.keeper.specs.Due.{Before, EarliestDue, NothingDue, Named, nothing, one, Rightly}
 use Rattle.keeper.specs.Calls.{answered, Names}
 use Rattle.keeper.specs.Searched.{boundOf, FirstBelow, NoneBelow, Sought}
-use Rattle.keeper.proofs.Places.{rank-below, timerAt, rank-at, place-back, place-below, same-place, same-rank, expiry-at}
+use Rattle.keeper.proofs.Places.{rank-below, timerAt, rank-at, place-back, place-below, same-rank, expiry-at}
 use Rattle.keeper.proofs.Search.{below-bound, due-below}
 
 -- WHAT THE SEARCH FINDS
@@ -57,20 +56,33 @@ names-found d n time place f =
       list = ap (λ (k : ℕ). set (set d k idle) (3 * n) time) (sym (place-back place));
     }
 
--- NO TWO ARE THE EARLIEST DUE
-in-order : (j k : ℕ) (s t : Timer) → (Before j s k t → ⊥) → (Before k t j s → ⊥) → (j ≡ k) × (s ≡ t)
-in-order j k s t f g = by (ltb j k) (ltb k j) refl refl where
-  ranks : j ≡ k → (b c : Bool) → ltb (rank s) (rank t) ≡ b → ltb (rank t) (rank s) ≡ c → s ≡ t
-  ranks e true c p q = absurd (f (inr (e, ltb-true (rank s) (rank t) p)))
-  ranks e false true p q = absurd (g (inr (sym e, ltb-true (rank t) (rank s) q)))
-  ranks e false false p q = same-rank s t (omega (arith, ltb-false (rank s) (rank t) p, ltb-false (rank t) (rank s) q))
+-- WHICH ONE: a link's timer is another's or not
+abbrev pub Same : ℕ → Timer → ℕ → Timer → Type 0
+Same j s k t = (j ≡ k) × (s ≡ t)
 
-  by : (b c : Bool) → ltb j k ≡ b → ltb k j ≡ c → (j ≡ k) × (s ≡ t)
-  by true c p q = absurd (f (inl (ltb-true j k p)))
-  by false true p q = absurd (g (inl (ltb-true k j q)))
-  by false false p q =
-      let e : j ≡ k = omega (arith, ltb-false j k p, ltb-false k j q) in
-      (e, ranks e (ltb (rank s) (rank t)) (ltb (rank t) (rank s)) refl refl)
+pub same-or-not : (j k : ℕ) (s t : Timer) → Same j s k t ⊎ (j ≡ k → s ≡ t → ⊥)
+same-or-not j k s t = by (eqb j k) (eqb (rank s) (rank t)) refl refl where
+  by : (a b : Bool) → eqb j k ≡ a → eqb (rank s) (rank t) ≡ b → Same j s k t ⊎ (j ≡ k → s ≡ t → ⊥)
+  by true true p q = inl (eqb-true j k p, same-rank s t (eqb-true (rank s) (rank t) q))
+  by true false p q = inr (λ u v. eqb-false (rank s) (rank t) q (ap rank v))
+  by false b p q = inr (λ u v. eqb-false j k p u)
+
+-- neither before nor the same: behind
+pub behind : (j k : ℕ) (s t : Timer) → (Before j s k t → ⊥) → (j ≡ k → s ≡ t → ⊥) → Before k t j s
+behind j k s t f g = by (ltb j k) (ltb k j) refl refl where
+  ranks : j ≡ k → (b c : Bool) → ltb (rank s) (rank t) ≡ b → ltb (rank t) (rank s) ≡ c → Before k t j s
+  ranks e true c p q = absurd (f (inr (e, ltb-true (rank s) (rank t) p)))
+  ranks e false true p q = inr (sym e, ltb-true (rank t) (rank s) q)
+  ranks e false false p q = absurd (g e (same-rank s t (omega (arith, ltb-false (rank s) (rank t) p, ltb-false (rank t) (rank s) q))))
+
+  by : (a b : Bool) → ltb j k ≡ a → ltb k j ≡ b → Before k t j s
+  by true b p q = absurd (f (inl (ltb-true j k p)))
+  by false true p q = inl (ltb-true k j q)
+  by false false p q = ranks (omega (arith, ltb-false j k p, ltb-false k j q)) (ltb (rank s) (rank t)) (ltb (rank t) (rank s)) refl refl
+
+-- NO TWO ARE THE EARLIEST DUE
+in-order : (j k : ℕ) (s t : Timer) → (Before j s k t → ⊥) → (Before k t j s → ⊥) → Same j s k t
+in-order j k s t f g = ⊎-elim (λ e. e) (λ z. absurd (g (behind j k s t f z))) (same-or-not j k s t)
 
 pub one-earliest : (d : List ℕ) (n time j k : ℕ) (s t : Timer) → EarliestDue d n time j s → EarliestDue d n time k t → (j ≡ k) × (s ≡ t)
 one-earliest d n time j k s t x y =

@@ -1,23 +1,22 @@
 -- The laws of the three calls. Assumes nothing.
-use Prim.Native.Nat.{ℕ, zero, suc, _+_, _*_, _/_, _%_, _<_, _≤_}
+use Prim.Native.Nat.{ℕ, _+_, _*_, _/_, _<_, _≤_}
 use native.Mathlib.Omega.{arith}
 use mathlib.Core.Path.{_≡_, refl, sym, ap, subst, _∙_}
-use mathlib.Core.Bool.{Bool, true, false}
 use mathlib.Core.Logic.{_↔_}
-use mathlib.Core.List.{List, [], _∷_, _++_}
-use lib.ListN.{length, getD, set, replicate, length-set, length-replicate, getD-replicate, List·getD-append}
-use lib.Seq.{getD-set-same, getD-set-other, getD-append-seam, getD-at}
+use mathlib.Core.List.{List, [], _∷_}
+use lib.ListN.{length, set, replicate, length-set, length-replicate, getD-replicate, List·getD-append}
+use lib.Seq.{getD-set-same, getD-set-other, getD-at}
 use Rattle.unit.specs.Checks.{Verdict, passed, refused, first, numberOf}
 use borrow.Author.Tests.{leb-false}
 use Rattle.table6.specs.Cell.{Timer, T1, T2, T3}
 use Rattle.keeper.specs.declared.DueAnswer.{DueAnswer}
 use Rattle.keeper.specs.Deadlines.{Order, Set, Reset, idle, placeOf, deadline, lastTime, withDeadline, withTime, orderOf, period, followed, expiry}
-use Rattle.keeper.specs.Due.{Due, EarliestDue, NothingDue, Named, nothing, one, Rightly, left, expired, linkOf}
-use Rattle.keeper.specs.Calls.{pastAll, ownPeriod, freshChecks, dueChecks, orderChecks, Kept, keeping, kept, freshDeadlines, freshCall, orderCall, answered, Names, Tells, DueCall}
+use Rattle.keeper.specs.Due.{Due, NothingDue, Named, nothing, one, Rightly, left, expired, linkOf}
+use Rattle.keeper.specs.Calls.{pastAll, ownPeriod, freshChecks, dueChecks, orderChecks, Kept, kept, freshDeadlines, freshCall, orderCall, answered, Names, Tells, DueCall}
 use Rattle.keeper.specs.Laws.{FreshRefused, OrderRefused, DueRefused, NoneRuns, Changed, SetChangesOne, SetRuns, ResetChangesOne, WasDue, NamedWasDue, OnlyTime, NothingDueExactly, OrderTimeKept, DueTimeKept}
 use Rattle.keeper.proofs.Places.{place-below, same-place, expiry-some}
 use Rattle.unit.proofs.Checks.{clear, none-refuses}
-use Rattle.keeper.proofs.Calls.{Good, period-some, Followed, fresh-made, order-past, order-passes, order-followed, Asked, due-past, due-passes, names-of}
+use Rattle.keeper.proofs.Calls.{period-some, fresh-made, order-past, order-passes, order-followed, due-past, due-passes, names-of}
 use Rattle.keeper.proofs.Lists.{length-followed, time-left}
 
 -- REFUSALS
@@ -178,8 +177,8 @@ nothing-due-exactly d p time a after t h =
           ((λ z. absurd (omega (arith, z, g, expiry-some t)), λ z. absurd (z k t (r .below) (r .due))), λ z. absurd (omega (arith, z, g, expiry-some t)))
 
 -- THE LAST TIME
-last-after : (o : Order) (d p : List ℕ) (link t3 time n : ℕ) → length d ≡ 3 * n + 1 → lastTime (withTime time (followed o d link t3 time) n) n ≡ time
-last-after o d p link t3 time n l = getD-set-same (followed o d link t3 time) (3 * n) time 0 (omega (arith, length-followed o d link t3 time))
+last-after : (o : Order) (d : List ℕ) (link t3 time n : ℕ) → length d ≡ 3 * n + 1 → lastTime (withTime time (followed o d link t3 time) n) n ≡ time
+last-after o d link t3 time n l = getD-set-same (followed o d link t3 time) (3 * n) time 0 (omega (arith, length-followed o d link t3 time))
 
 pub order-time-kept : OrderTimeKept
 unfolding orderCall
@@ -188,7 +187,7 @@ order-time-kept d p link c time = by (first (orderChecks d p link c time)) refl 
       lastTime d (length p) ≤ lastTime (kept v d (withTime time (followed (orderOf c) d link (ownPeriod p link) time) (length p)) .deadlines) (length p)
   by passed e =
       let f = order-past d p link c time e in
-      omega (arith, f .later, last-after (orderOf c) d p link (ownPeriod p link) time (length p) (f .lists .full))
+      omega (arith, f .later, last-after (orderOf c) d link (ownPeriod p link) time (length p) (f .lists .full))
   by (refused r) e = omega arith
 
 pub due-time-kept : DueTimeKept

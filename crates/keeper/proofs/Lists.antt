@@ -1,9 +1,9 @@
 -- What becomes of a list's length and numbers as orders are followed and a list is made fresh. Assumes nothing.
-use Prim.Native.Nat.{ℕ, zero, suc, _+_, _-_, _*_, _<_, _≤_}
+use Prim.Native.Nat.{ℕ, suc, _+_, _-_, _*_, _<_}
 use native.Mathlib.Numerals.{add-one}
 use native.Mathlib.Omega.{arith}
 use mathlib.Core.Path.{_≡_, refl, sym, ap, _∙_}
-use mathlib.Core.List.{List, [], _∷_, _++_, append-assoc}
+use mathlib.Core.List.{List, [], _∷_, _++_}
 use lib.ListN.{length, getD, take, drop, set, replicate, length-set, drop-of-length-le}
 use lib.Seq.{getD-set-same, take-suc, take-set-le, set-split, set-at, length-take-le, append-snoc}
 use Rattle.keeper.specs.Deadlines.{Order, Set, Reset, none, idle, placeOf, lastTime, followed}

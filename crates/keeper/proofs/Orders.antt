@@ -8,7 +8,7 @@ use lib.Dec.{eqb, ltb, leb}
 use lib.ListN.{set}
 use borrow.Author.Tests.{eqb-true}
 use Rattle.table6.specs.Cell.{T1, T2, T3}
-use Rattle.keeper.specs.Deadlines.{Order, Set, Reset, none, idle, orderOf, followed}
+use Rattle.keeper.specs.Deadlines.{Set, Reset, none, idle, orderOf, followed}
 use Rattle.keeper.specs.Calls.{noOrder, pastAll}
 use Rattle.keeper.specs.Searched.{periodSet}
 

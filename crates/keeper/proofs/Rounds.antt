@@ -6,23 +6,23 @@ use mathlib.Core.Bool.{Bool, true, false, cond, _&&_}
 use mathlib.Core.Logic.{_⊎_, inl, inr, ⊎-elim}
 use mathlib.Core.List.{List, [], _∷_}
 use lib.Dec.{eqb, ltb}
-use lib.ListN.{length, getD, set, length-set}
+use lib.ListN.{length, getD, set}
 use lib.Seq.{getD-set-same, getD-set-other}
-use borrow.Author.Tests.{eqb-true, eqb-false, eq-eqb, ne-eqb, ltb-true, ltb-false, lt-ltb, le-ltb}
+use borrow.Author.Tests.{eqb-true, eq-eqb, ltb-true, ltb-false, lt-ltb, le-ltb}
 use Rattle.unit.specs.Checks.{passed, first}
 use Rattle.unit.proofs.Checks.{clear, none}
 use Rattle.table6.specs.Cell.{Timer}
 use Rattle.keeper.specs.declared.DueAnswer.{DueAnswer}
 use Rattle.keeper.specs.Deadlines.{idle, rank, placeOf, deadline, lastTime, withDeadline, withTime, expiry}
-use Rattle.keeper.specs.Due.{Due, Before, EarliestDue, NothingDue, Named, nothing, one, Rightly, left, expired, linkOf}
+use Rattle.keeper.specs.Due.{Due, EarliestDue, Named, nothing, one, Rightly, left, expired, linkOf}
 use Rattle.keeper.specs.Calls.{badLists, dueChecks, answered, Names, DueCall}
 use Rattle.keeper.specs.Laws.{Changed}
-use Rattle.keeper.specs.Searched.{boundOf, FirstBelow, NoneBelow, Sought}
-use Rattle.keeper.specs.Rounds.{Of, Round, Sooner, All, InOrder, times, InTurn, EachOnce, RoundEnds}
-use Rattle.keeper.proofs.Places.{timerAt, place-back, place-below, same-rank, same-expiry, expiry-some}
+use Rattle.keeper.specs.Searched.{boundOf, FirstBelow, NoneBelow}
+use Rattle.keeper.specs.Rounds.{Of, Round, Sooner, All, InOrder, times, EachOnce, RoundEnds}
+use Rattle.keeper.proofs.Places.{timerAt, place-back, same-rank, same-expiry, expiry-some}
 use Rattle.keeper.proofs.Calls.{due-past, due-named, names-of}
 use Rattle.keeper.proofs.Search.{below-bound}
-use Rattle.keeper.proofs.Due.{found-due, names-none}
+use Rattle.keeper.proofs.Due.{Same, same-or-not, behind, found-due, names-none}
 use Rattle.keeper.proofs.Laws.{changed, told-past, nothing-due-exactly}
 
 -- LISTS OF NAMES
@@ -48,30 +48,6 @@ SameAt d e x = deadline e (x .link) (x .timer) ≡ deadline d (x .link) (x .time
 order-same : (d e : List ℕ) (l : List Of) → All (SameAt d e) l → InOrder e l → InOrder d l
 order-same d e [] a o = tt
 order-same d e (x ∷ l) a o = (all-both l (λ y p q. sooner-same d e x y (a .0) p q) (a .1) (o .0), order-same d e l (a .1) (o .1))
-
--- WHICH ONE: a link's timer is another's or not
-abbrev Same : ℕ → Timer → ℕ → Timer → Type 0
-Same j s k t = (j ≡ k) × (s ≡ t)
-
-same-or-not : (j k : ℕ) (s t : Timer) → Same j s k t ⊎ (j ≡ k → s ≡ t → ⊥)
-same-or-not j k s t = by (eqb j k) (eqb (rank s) (rank t)) refl refl where
-  by : (a b : Bool) → eqb j k ≡ a → eqb (rank s) (rank t) ≡ b → Same j s k t ⊎ (j ≡ k → s ≡ t → ⊥)
-  by true true p q = inl (eqb-true j k p, same-rank s t (eqb-true (rank s) (rank t) q))
-  by true false p q = inr (λ u v. eqb-false (rank s) (rank t) q (ap rank v))
-  by false b p q = inr (λ u v. eqb-false j k p u)
-
--- neither before nor the same: behind
-behind : (j k : ℕ) (s t : Timer) → (Before j s k t → ⊥) → (j ≡ k → s ≡ t → ⊥) → Before k t j s
-behind j k s t f g = by (ltb j k) (ltb k j) refl refl where
-  ranks : j ≡ k → (b c : Bool) → ltb (rank s) (rank t) ≡ b → ltb (rank t) (rank s) ≡ c → Before k t j s
-  ranks e true c p q = absurd (f (inr (e, ltb-true (rank s) (rank t) p)))
-  ranks e false true p q = inr (sym e, ltb-true (rank t) (rank s) q)
-  ranks e false false p q = absurd (g e (same-rank s t (omega (arith, ltb-false (rank s) (rank t) p, ltb-false (rank t) (rank s) q))))
-
-  by : (a b : Bool) → ltb j k ≡ a → ltb k j ≡ b → Before k t j s
-  by true b p q = absurd (f (inl (ltb-true j k p)))
-  by false true p q = inl (ltb-true k j q)
-  by false false p q = ranks (omega (arith, ltb-false j k p, ltb-false k j q)) (ltb (rank s) (rank t)) (ltb (rank t) (rank s)) refl refl
 
 -- ONE IS NAMED: what is due afterwards was due before, at the same deadline, and is another
 abbrev DueOne : List ℕ → ℕ → ℕ → Of → Type 0

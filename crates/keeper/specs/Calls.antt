@@ -113,12 +113,12 @@ Tells (refused r) d n time a after = (a ≡ answered r 0 0) × (after ≡ d)
 Tells passed d n time a after = Names d n time a after
 
 -- answer and list together
-pub record Told : Type 0 where
+pub record Outcome : Type 0 where
   pub answer : DueAnswer
   pub deadlines : List ℕ
 
-abbrev pub telling : DueAnswer → List ℕ → Told
-telling a d = record { answer = a; deadlines = d }
+abbrev pub outcome : DueAnswer → List ℕ → Outcome
+outcome a d = record { answer = a; deadlines = d }
 
 unfoldable pub DueCall : List ℕ → List ℕ → ℕ → DueAnswer → List ℕ → Type 0
 DueCall d p time a after = Tells (first (dueChecks d p time)) d (length p) time a after

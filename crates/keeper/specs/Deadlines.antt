@@ -4,8 +4,8 @@ use mathlib.Core.Bool.{cond}
 use mathlib.Core.List.{List, [], _∷_}
 use lib.Dec.{eqb}
 use lib.ListN.{getD, set}
-use Rattle.table6.specs.Cell.{Timer, T1, T2, T3}
-use Rattle.table6.specs.SignalCodes.{SET-T1, SET-T2, SET-T3, RESET-T1, RESET-T2, RESET-T3}
+use Rattle.table6.specs.Cell.{Timer, T1, T2, T3, Told}
+use Rattle.table6.specs.SignalCodes.{code}
 use Rattle.table6.specs.EventCodes.{T1-expired, T2-expired, T3-expired}
 
 -- WHERE WHAT STANDS
@@ -46,23 +46,23 @@ pub data Order : Type 0 where
   Set Reset : Timer → Order
   none : Order
 
--- The code of a signal record, and the order that it is; most are none.
+-- The code of a signal record, and the order that it is, by the signals of Table 6; most are none.
 pub record Meaning : Type 0 where
   pub code : ℕ
   pub order : Order
 
 infixl 20 _is_
-abbrev pub _is_ : ℕ → Order → Meaning
-c is o = record { code = c; order = o }
+abbrev pub _is_ : Told → Order → Meaning
+a is o = record { code = code a; order = o }
 
 abbrev pub orders : List Meaning
 orders =
-    (SET-T1 is Set T1)
-    ∷ (SET-T2 is Set T2)
-    ∷ (SET-T3 is Set T3)
-    ∷ (RESET-T1 is Reset T1)
-    ∷ (RESET-T2 is Reset T2)
-    ∷ (RESET-T3 is Reset T3)
+    (Told.Set T1 is Set T1)
+    ∷ (Told.Set T2 is Set T2)
+    ∷ (Told.Set T3 is Set T3)
+    ∷ (Told.Reset T1 is Reset T1)
+    ∷ (Told.Reset T2 is Reset T2)
+    ∷ (Told.Reset T3 is Reset T3)
     ∷ []
 
 abbrev pub among : List Meaning → ℕ → Order

@@ -6,7 +6,7 @@ use mathlib.Core.List.{List}
 use lib.ListN.{length}
 use Rattle.table6.specs.Cell.{Timer}
 use Rattle.keeper.specs.declared.DueAnswer.{DueAnswer}
-use Rattle.keeper.specs.Deadlines.{Runs, Order, Set, Reset, idle, deadline, lastTime, orderOf, period, expiry}
+use Rattle.keeper.specs.Deadlines.{Runs, Set, Reset, idle, deadline, lastTime, orderOf, period, expiry}
 use Rattle.keeper.specs.Due.{Due, NothingDue}
 use Rattle.keeper.specs.Calls.{ownPeriod, freshCall, orderCall, answered, DueCall}
 

@@ -50,6 +50,6 @@ pub record InTurn (d : List ℕ) (n time : ℕ) (names : List Of) : Type 0 where
 abbrev pub EachOnce : Type 0
 EachOnce = (p : List ℕ) (time : ℕ) (d : List ℕ) (names : List Of) → Round p time d names → InTurn d (length p) time names
 
--- And the asking ends.
+-- There is such a round from every list on which the question is not refused; since no second answer fits, the asking ends.
 abbrev pub RoundEnds : Type 0
 RoundEnds = (p : List ℕ) (time : ℕ) (d : List ℕ) → first (dueChecks d p time) ≡ passed → (names : List Of) × Round p time d names

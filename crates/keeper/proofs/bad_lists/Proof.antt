@@ -1,8 +1,5 @@
 -- `bad_lists` meets its contract. Assumes nothing.
 use native.Mathlib.Omega.{arith}
-use mathlib.Core.Path.{_≡_, refl, sym, ap, _∙_}
-use mathlib.Core.Bool.{Bool, true, false, not, _||_}
-use borrow.Author.Needs.{needs}
 use Rattle.keeper.proofs.Calls.{few}
 use Rattle.keeper.proofs.bad_lists.Statement.{statement}
 use Rattle.keeper.proofs.bad_lists.Tie as tie

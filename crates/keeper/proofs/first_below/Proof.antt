@@ -1,9 +1,9 @@
 -- `first_below` meets its contract. The loop's invariant: i is a link's first place, and what was found is that of the places before it. Assumes nothing.
 use Prim.Native.Nat.{ℕ, _+_, _-_, _%_, _≤_, _<_}
 use native.Mathlib.Omega.{arith}
-use mathlib.Core.Path.{_≡_, refl, sym, ap, _∙_}
+use mathlib.Core.Path.{_≡_, refl}
 use mathlib.Core.Logic.{_⊎_, inl, inr, ⊎-elim}
-use lib.ListN.{length, getD}
+use lib.ListN.{getD}
 use borrow.Author.Needs.{needs}
 use Rattle.keeper.proofs.Search.{SoFar, passed-by, taken, least-below, none-below, sought}
 use Rattle.keeper.proofs.first_below.Statement.{statement}

@@ -1,7 +1,7 @@
 -- `is_order` meets its contract: at each of the six codes the definition computes, and past them none is left. Assumes nothing.
 use Prim.Native.Nat.{ℕ}
 use mathlib.Core.Path.{_≡_, ap, sym}
-use mathlib.Core.Bool.{Bool, not}
+use mathlib.Core.Bool.{not}
 use borrow.Author.Tests.{ne-eqb}
 use Rattle.keeper.specs.Deadlines.{orderOf}
 use Rattle.keeper.specs.Calls.{noOrder}

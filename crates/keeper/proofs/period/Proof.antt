@@ -1,6 +1,6 @@
 -- `period` meets its contract. Assumes nothing.
 use Prim.Native.Nat.{ℕ}
-use mathlib.Core.Path.{_≡_, ap, sym}
+use mathlib.Core.Path.{ap, sym}
 use borrow.Author.Tests.{ne-eqb}
 use Rattle.keeper.specs.Searched.{periodSet}
 use Rattle.keeper.proofs.period.Statement.{statement}

@@ -1,13 +1,12 @@
 -- `sscf_deadlines_due` meets its contract. Assumes nothing.
-use Prim.Native.Nat.{ℕ, _+_, _*_}
+use Prim.Native.Nat.{ℕ, _*_}
 use native.Mathlib.Omega.{arith}
-use mathlib.Core.Path.{_≡_, refl, sym, ap, subst, _∙_}
-use mathlib.Core.List.{List}
+use mathlib.Core.Path.{_≡_, sym, subst, _∙_}
 use lib.ListN.{length, set, length-set}
 use borrow.Author.Needs.{needs}
 use Rattle.unit.specs.Checks.{passed, first}
 use Rattle.keeper.specs.Calls.{dueChecks, answered}
-use Rattle.keeper.specs.Searched.{boundOf, FirstBelow, NoneBelow, Sought}
+use Rattle.keeper.specs.Searched.{boundOf, FirstBelow, Sought}
 use Rattle.keeper.proofs.Calls.{Asked, due-past, due-passes, due-refused, due-named}
 use Rattle.keeper.proofs.Due.{at-end, inside-end, names-none, names-found}
 use Rattle.keeper.proofs.sscf_deadlines_due.Statement.{statement}

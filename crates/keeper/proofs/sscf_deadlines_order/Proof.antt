@@ -1,13 +1,13 @@
 -- `sscf_deadlines_order` meets its contract. Assumes nothing.
-use Prim.Native.Nat.{ℕ, _+_, _*_}
+use Prim.Native.Nat.{ℕ}
 use native.Mathlib.Omega.{arith}
-use mathlib.Core.Path.{_≡_, refl, sym, ap, _∙_}
+use mathlib.Core.Path.{_≡_, sym, ap, _∙_}
 use mathlib.Core.List.{List}
-use lib.ListN.{length, set, length-set}
+use lib.ListN.{length}
 use borrow.Author.Needs.{needs}
 use Rattle.unit.specs.Checks.{passed, first}
-use Rattle.keeper.specs.Deadlines.{Order, orderOf, followed, withTime}
-use Rattle.keeper.specs.Calls.{ownPeriod, orderChecks, pastAll, keeping}
+use Rattle.keeper.specs.Deadlines.{orderOf, withTime}
+use Rattle.keeper.specs.Calls.{ownPeriod, orderChecks, keeping}
 use Rattle.keeper.proofs.Calls.{Followed, order-past, order-passes, order-refused, order-followed}
 use Rattle.keeper.proofs.Lists.{length-followed}
 use Rattle.keeper.proofs.sscf_deadlines_order.Statement.{statement}
