@@ -16,6 +16,7 @@
 
 #include <sscf_host.h>
 
+#include <limits.h>
 #include <poll.h>
 #include <stdio.h>
 #include <stdlib.h>
@@ -50,10 +51,12 @@ static uint64_t time_now(void)
  * whose SSCOP is behind a socket has poll look at that too. */
 static void wait_until(uint64_t time)
 {
-    uint64_t at = time_now();
+    uint64_t at = time_now(), wait;
 
-    if (at < time)
-        poll(NULL, 0, (int)((time - at + factor - 1) / factor));
+    if (at >= time)
+        return;
+    wait = (time - at - 1) / factor + 1;
+    poll(NULL, 0, wait < INT_MAX ? (int)wait : INT_MAX);
 }
 
 /* The timers. T3 is for 64 kbit/s: every second cell a proving unit. */

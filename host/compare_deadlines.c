@@ -62,7 +62,8 @@ struct side {
 
 static struct side library, second;
 
-/* A list with a count above ROOM must be refused unread, and is lent no more numbers than that. */
+/* A list with a count above ROOM is refused unread, which is more than sscf.h says: it is lent no
+ * more numbers than that. */
 static size_t lent(size_t count)
 {
     return count < ROOM ? count : ROOM;

@@ -2066,6 +2066,7 @@ static void fresh_deadlines(void)
         CHECK(as_due());
     }
     CHECK(sscf_deadlines_fresh(NULL, 0) == SSCF_DEADLINES_REFUSED_LISTS);
+    /* beyond what sscf.h says: a count that is refused is not believed */
     CHECK(sscf_deadlines_fresh(keeper.deadlines, SIZE_MAX) == SSCF_DEADLINES_REFUSED_LISTS);
     CHECK(as_due());
 }
@@ -2214,6 +2215,7 @@ static void bad_periods(void)
     }
 }
 
+/* Beyond what sscf.h says: lists that are refused are not read, however long they are said to be. */
 static void bad_lists(void)
 {
     static const size_t counts[][2] = {{0, 0}, {1, 0}, {4, 0}, {3, 1}, {5, 1}, {4, 2}, {6, 2}, {8, 2}, {7, 1},

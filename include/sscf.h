@@ -25,8 +25,9 @@
  * The library is for x86-64 Linux. It allocates nothing, keeps nothing between calls and calls
  * nothing back; every call returns, whatever octets it is given. All it knows of the links stands
  * in the table, which is the host's: it may be copied, stored and carried to another process, where
- * one copy alone goes on, the latest, whole. What the calls promise, beside each of them below, is
- * proved of the code, for every table, every event, every message and every list.
+ * one copy alone goes on, the latest, whole, and with it the list of its deadlines, if these calls
+ * keep them. What the calls promise, beside each of them below, is proved of the code, for every
+ * table, every event, every message and every list.
  *
  * Of the C library it needs memmove, and for DEADLINES memset; a later version may also need
  * memcpy, memcmp or bcmp. A step or a burst takes at most 256 octets of stack, a call of DEADLINES
@@ -819,7 +820,8 @@ struct sscf_changeover_answer sscf_changeover_read(const uint8_t *octets, size_t
  *   set runs from the time given with its order, not from when it should have been named. So
  *   whatever the host wakes up late is added to each T3, and all of proving must still fit into T2.
  * - to follow every timer order of an accepted step or burst, resets too, in the order written. One
- *   time read for a turn will do for all that the host does in it.
+ *   time is read for a turn, and every order and question of the turn is given at it: behind an
+ *   order at a later time the next question at the first one is refused.
  * - to hand in at once what was named, before any other event and before the next question: it is
  *   marked not running here with the answer, and in the record with the expiry's own step. An
  *   expiry that is kept back may be that of a timer that was stopped meanwhile, and is refused by
@@ -838,9 +840,10 @@ struct sscf_changeover_answer sscf_changeover_read(const uint8_t *octets, size_t
  *   differ, one that would fall below 0 to 0, and puts 0 in the place of the last time.
  *
  * A host of four links, with sscf_host.h. table, of 64 octets, and out are its own, and so are
- * time_now, its clock in milliseconds, hand_on_signals, fail, and wait_until, which comes back once
- * a time has come, or sooner: meanwhile it steps what SSCOP, the users and management have for the
- * links, with follow behind each step or burst, by the octets that this answered.
+ * time_now, its clock in milliseconds, hand_on_signals, which leaves out the timer orders, fail,
+ * and wait_until, which comes back once a time has come, or sooner: meanwhile it steps what SSCOP,
+ * the users and management have for the links, with follow behind each step or burst, by the octets
+ * that this answered. With SSCF_NOT_RUNNING it waits for these alone.
  *
  *     static uint64_t deadlines[SSCF_DEADLINES(4)], periods[4] = {13, 13, 13, 13};
  *
@@ -875,8 +878,8 @@ struct sscf_changeover_answer sscf_changeover_read(const uint8_t *octets, size_t
  *             answer = sscf_step(table, sizeof table, expiry, sizeof expiry, out, sizeof out);
  *             if (answer.refusal != SSCF_ACCEPTED)
  *                 fail(sscf_refusal_name(answer.refusal));
- *             follow(answer.octets, time);
  *             hand_on_signals(out, answer);
+ *             follow(answer.octets, time);
  *         }
  *         if (due.refusal != SSCF_ACCEPTED)
  *             fail(sscf_deadlines_refusal_name(due.refusal));
