@@ -127,7 +127,7 @@
  *   that is congested, hand in CONGESTION for it (again): this gives the connection up, and the
  *   link tries again after T1.
  *
- * Where the stack is short: a step takes 168 octets and a burst 248, by the listing. glibc's
+ * Where the stack is short: a step takes 152 octets and a burst 232, by the listing. glibc's
  * memmove takes none, but where it is bound lazily its first call runs the dynamic loader, which
  * took 3 KB with 0.1.1, on a painted stack; memset can be bound so too.
  */

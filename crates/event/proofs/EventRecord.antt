@@ -20,7 +20,9 @@ use Rattle.table6.specs.EventCodes.{T1-expired, T2-expired, T3-expired}
 use Rattle.table6.proofs.Every.{left, right}
 use Rattle.link.specs.declared.Num.{Num}
 use Rattle.link.specs.declared.Event.{Event}
+use Rattle.link.specs.declared.Event.the-variants as event
 use Rattle.link.specs.Signal.{num, none}
+use Rattle.link.specs.Stored.{bareView, viewOf, numberIn}
 use Rattle.event.specs.declared.Reading.{Reading}
 use Rattle.event.specs.declared.Fault.{Fault}
 use Rattle.event.specs.declared.Look.{Look}
@@ -28,7 +30,7 @@ use Rattle.octet.specs.Octets.{at}
 use Rattle.octet.proofs.Branches.{neither}
 use Rattle.event.specs.Frame.{EV, lengthAt, linkAt, numberAt, messageOf, codeAt, paramAt, written}
 use Rattle.event.specs.Fields.{noneOrStatus, isZero, isSource, fields, notCarried, outOfRange, fieldChecks}
-use Rattle.event.specs.EventRecord.{framed, events, Coded, among, Each, codedAt, codedIn, said, unknown, fieldsIn, Refused, _at-place_}
+use Rattle.event.specs.EventRecord.{framed, events, Coded, among, Each, codedAt, codedIn, said, eventOf, unknown, fieldsIn, Refused, _at-place_}
 use Rattle.event.specs.EventRecord.{reading, fitting, saying, fieldsOf, readingOf, Holds, Carried, carrying, carried, Rewritten, Reread}
 use Rattle.event.specs.Look.{Seen}
 use Rattle.event.proofs.Fields.{hasParameter, hasNumber, parameter-not-carried, number-not-carried, source-out-of-range}
@@ -262,6 +264,25 @@ keeps : (p : ℕ) (n : Num) (len : ℕ) (a : Arrived) → Each (λ (y : Event). 
 keeps p n len a =
     (refl, (refl, (refl, (refl, (refl, (refl, (refl, (refl, (refl, (refl, (refl, (refl, (refl, (refl, (refl, (refl, (refl, (refl, (refl, (refl, (refl, (refl, (refl, (refl, (refl, (refl, (refl, (refl, (refl, (refl, (refl, tt)))))))))))))))))))))))))))))))
 
+-- what a link sees of an event, in the number's place the source of a release, is what the event carries
+abbrev seen : ℕ → Event → Carried
+seen c1 x = let v = viewOf x c1 in carrying (carried x .code) (v .1) (numberIn v)
+
+data-seen : (a : Arrived) (n : Num) (c1 : ℕ) → seen c1 (event.Data a n) ≡ carried (event.Data a n)
+data-seen Arrived.INS n c1 = refl
+data-seen Arrived.NM n c1 = refl
+data-seen (Arrived.Other status) n c1 = refl
+data-seen Arrived.Short n c1 = refl
+data-seen Arrived.Long n c1 = refl
+
+t3-number : (b : Bool) → numberIn (bareView (cond b 34 33)) ≡ none
+t3-number true = refl
+t3-number false = refl
+
+all-seen : (c1 p : ℕ) (n : Num) (len : ℕ) (a : Arrived) → Each (λ (y : Event). seen c1 y ≡ carried y) (events p n len a)
+all-seen c1 p n len a =
+    (refl, (refl, (refl, (refl, (refl, (refl, (refl, (refl, (refl, (refl, (refl, (refl, (refl, (data-seen a n c1, (refl, (refl, (refl, (refl, (refl, (refl, (refl, (refl, (refl, (refl, (refl, (refl, (refl, (refl, (refl, (refl, (ap (carrying T3-expired 0) (t3-number (eqb c1 0)), tt)))))))))))))))))))))))))))))))
+
 -- WHAT FITS
 
 parameter : (t : Bool) (p : ℕ) → not t && leb 1 p ≡ false → cond t p 0 ≡ p
@@ -297,22 +318,30 @@ known : (x : Coded) → unknown x ≡ false → x ≡ Coded.Of (said x)
 known Coded.Unknown h = absurd (true≢false h)
 known (Coded.Of x) h = refl
 
+-- an event that fits carries what its octets have
+module _ (e : List ℕ) (r : ToldOf e Reading.Fits) where
+  coded-as : codedIn e ≡ Coded.Of (eventOf e)
+  coded-as = known (codedIn e) (r .1)
+
+  abbrev eventsIn : List Event
+  eventsIn = events (paramAt e) (numberAt e) (lengthAt e) (arrived (messageOf e))
+
+  fits-whole : carried (eventOf e) ≡ carrying (codeAt e) (paramAt e) (numberAt e)
+  unfolding codedAt
+  fits-whole =
+      let w = whole (codeAt e) (paramAt e) (numberAt e) (lengthAt e) (r .2) in
+      of-events (Keeps (paramAt e) (numberAt e)) (codeAt e) eventsIn (keeps (paramAt e) (numberAt e) (lengthAt e) (arrived (messageOf e))) coded-as ∙ (λ i. carrying (codeAt e) (w .0 i) (w .1 i))
+
+  -- and a link sees it so
+  pub fits-seen : (c1 : ℕ) → seen c1 (eventOf e) ≡ carrying (codeAt e) (paramAt e) (numberAt e)
+  unfolding codedAt
+  fits-seen c1 = of-events (λ c x. seen c1 x ≡ carried x) (codeAt e) eventsIn (all-seen c1 (paramAt e) (numberAt e) (lengthAt e) (arrived (messageOf e))) coded-as ∙ fits-whole
+
 pub rewritten : Rewritten
-unfolding codedAt
 rewritten e l x o h =
-    let c = at e 4 in
-    let p = at e 5 in
-    let n = numberAt e in
-    let len = lengthAt e in
-    let a = arrived (messageOf e) in
     let r = reading-tells e Reading.Fits (sym (h .fits)) in
-    let s = known (codedIn e) (r .1) ∙ ap Coded.Of (h .event) in
-    let k : carried x ≡ carrying c (cond (hasParameter c) p 0) (kept c n) = of-events (Keeps p n) c (events p n len a) (keeps p n len a) s in
-    let w = whole c p n len (r .2) in
-    let e4 = ap (λ (y : Carried). y .code) k in
-    let e5 = ap (λ (y : Carried). y .param) k ∙ w .0 in
-    let e6 = ap (λ (y : Carried). y .num) k ∙ w .1 in
-    (λ i. written EV (sym (h .link) i) (e4 i) (e5 i) (e6 i) (messageOf e)) ∙ frame-rewritten EV e o (r .0)
+    let k = ap carried (sym (h .event)) ∙ fits-whole e r in
+    (λ i. written EV (sym (h .link) i) (k i .code) (k i .param) (k i .num) (messageOf e)) ∙ frame-rewritten EV e o (r .0)
 
 -- READING WHAT WAS WRITTEN
 

@@ -1,8 +1,7 @@
 -- What an event does by itself, and behind it what the number of its cell does, is the step. The code looks at the link as the event left it, and not as
--- it was: of an event that alters the link by itself no cell asks for what it alters, and none says it. Assumes nothing.
+-- it was: of an event that alters the link by itself no cell asks for what it alters. Assumes nothing.
 use mathlib.Core.Path.{_≡_, refl, sym, ap, subst, _∙_}
 use mathlib.Core.Bool.{Bool, true, false, cond}
-use mathlib.Core.List.{List, [], _∷_, map}
 use Prim.Native.Nat.{ℕ}
 use lib.Dec.{eqb}
 use Rattle.unit.specs.declared.Arrived.{Arrived}
@@ -11,9 +10,8 @@ use Rattle.unit.specs.declared.Ups.{Ups}
 use Rattle.table6.specs.declared.State.{State}
 use Rattle.table6.specs.declared.Facts.{Facts}
 use Rattle.table6.specs.declared.Met.{Met}
-use Rattle.table6.specs.Cell.{Told}
 use Rattle.table6.specs.Summary.{Op, keep, put, over, Count, same, decided, less, Summary, still, with-mps, with-ups, with-c1, with-bsnt, Summed, refused, summed}
-use Rattle.table6.specs.Stored.{stateOp, upsOp, arrival, behind, changed, said, met, metAs}
+use Rattle.table6.specs.Stored.{stateOp, upsOp, arrival, behind, changed, met, metAs}
 use Rattle.table6.proofs.Unfolded.{every-row}
 use Rattle.table6.proofs.Stored.{eight, of-eight}
 use Rattle.link.specs.declared.Num.{Num}
@@ -21,13 +19,13 @@ use Rattle.link.specs.declared.Link.{Link}
 use Rattle.link.specs.declared.Event.{Event}
 use Rattle.link.specs.declared.Event.the-variants as event
 use Rattle.link.specs.declared.View.{View}
-use Rattle.link.specs.declared.Signal.{Signal}
 use Rattle.link.specs.Effect.{with-state}
 use Rattle.link.specs.Effect as effect
-use Rattle.link.specs.Signal.{none, signalOf}
-use Rattle.link.specs.Step.{Outcome, Illegal, Legal, stepOf}
-use Rattle.link.specs.Stored.{bareView, dataRowOf, t3RowOf, viewOf, seenIn, meetingOf, factsOf, summedUp, arrivedOf, appliedOf, saidOf, signalsOf}
+use Rattle.link.specs.Signal.{none}
+use Rattle.link.specs.Step.{Illegal, Legal, stepOf}
+use Rattle.link.specs.Stored.{bareView, viewOf, numberIn, meetingOf, factsOf, summedUp, arrivedOf, appliedOf, givenBy, signalsOf}
 use Rattle.link.proofs.Performed.{outcomeOf, as-met}
+use Rattle.link.proofs.Carried.{leaving, carried}
 
 -- WHAT BECOMES OF THE LINK
 
@@ -59,11 +57,7 @@ ups-wished : (x : Ups) {up : Bool} (n p : ℕ) (num : Num) (l : Link) → up ≡
 ups-wished x n p num l e =
     rw e (ap (λ (u : Ups). effect.with-ups u (summedUp (changed still false n) p none (summedUp (with-ups (put x) still) p num l))) (last-wins x (upsOp n) (l .ups)))
 
--- WHAT A CELL SAYS AND DECIDES
-
-abbrev saysOf : Summed → List Told
-saysOf refused = []
-saysOf (summed s says next) = says
+-- WHAT A CELL DECIDES
 
 abbrev countOf : Summed → Count
 countOf refused = same
@@ -85,63 +79,6 @@ Undecided row = (f : Facts) → eight (λ s. countOf (met row s f)) ≡ eight (�
 down : (row : ℕ) (s : State) (f : Facts) (up : Bool) (n : ℕ) → Undecided row → arrival row .c1 ≡ same → metAs row s (Met.Does n up) ≡ met row s f → up ≡ false
 down row s f up n u a e =
     not-up up (ap (cond up decided) (sym a) ∙ ap countOf e ∙ of-eight (λ s. countOf (met row s f)) (λ s. same) (u f) s)
-
--- What a row says takes nothing from the link, nor a number from the event.
-abbrev Silent : ℕ → Type 0
-Silent row =
-    (f : Facts) (p : ℕ) (n n′ : Num) (m m′ : Mps) (u u′ : Ups) (b b′ : Num) →
-    eight (λ s. map (signalOf p n m u b) (saysOf (met row s f))) ≡ eight (λ s. map (signalOf p n′ m′ u′ b′) (saysOf (met row s f)))
-
-abbrev Spoken : View → Link → ℕ → Type 0
-Spoken v l n =
-    map (signalOf (v .1) (v .2) (l .mps) (l .ups) (l .bsnt .num)) (said n) ≡ signalsOf (saidOf n (seenIn v) (arrivedOf v l))
-
-unheard : (v : View) (l : Link) (up : Bool) (n : ℕ) (f : Facts) → Silent (v .0) → metAs (v .0) (l .state) (Met.Does n up) ≡ met (v .0) (l .state) f → Spoken v l n
-unfolding signalsOf
-unheard v l up n f q e =
-    let a = arrivedOf v l in
-    let g : List Told → List Signal = map (signalOf (v .1) (v .2) (l .mps) (l .ups) (l .bsnt .num)) in
-    let h : List Told → List Signal = map (signalOf (v .1) (seenIn v .2) (a .mps) (a .ups) (a .bsnt .num)) in
-    ap (λ (x : Summed). g (saysOf x)) e
-    ∙ of-eight (λ s. g (saysOf (met (v .0) s f))) (λ s. h (saysOf (met (v .0) s f)))
-    (q f (v .1) (v .2) (seenIn v .2) (l .mps) (a .mps) (l .ups) (a .ups) (l .bsnt .num) (a .bsnt .num)) (l .state)
-    ∙ sym (ap (λ (x : Summed). h (saysOf x)) e)
-
-silent-1 : Silent 1
-unfolding met every-row
-silent-1 f p n n′ m m′ u u′ b b′ = refl
-
-silent-2 : Silent 2
-unfolding met every-row
-silent-2 f p n n′ m m′ u u′ b b′ = refl
-
-silent-13 : Silent 13
-unfolding met every-row
-silent-13 f p n n′ m m′ u u′ b b′ = refl
-
-silent-14 : Silent 14
-unfolding met every-row
-silent-14 f p n n′ m m′ u u′ b b′ = refl
-
-silent-15 : Silent 15
-unfolding met every-row
-silent-15 f p n n′ m m′ u u′ b b′ = refl
-
-silent-16 : Silent 16
-unfolding met every-row
-silent-16 f p n n′ m m′ u u′ b b′ = refl
-
-silent-26 : Silent 26
-unfolding met every-row
-silent-26 f p n n′ m m′ u u′ b b′ = refl
-
-silent-27 : Silent 27
-unfolding met every-row
-silent-27 f p n n′ m m′ u u′ b b′ = refl
-
-silent-28 : Silent 28
-unfolding met every-row
-silent-28 f p n n′ m m′ u u′ b b′ = refl
 
 undecided-1 : Undecided 1
 unfolding met every-row
@@ -186,10 +123,10 @@ unfolding met every-row
 plain-16 f g = refl
 
 abbrev SameFacts : Link → View → Type 0
-SameFacts l v = met (v .0) (l .state) (factsOf (arrivedOf v l) (seenIn v)) ≡ met (v .0) (l .state) (factsOf l v)
+SameFacts l v = met (v .0) (l .state) (factsOf (arrivedOf v l) v) ≡ met (v .0) (l .state) (factsOf l v)
 
 data-facts : (l : Link) (v : View) → Plain (v .0) → SameFacts l v
-data-facts l v q = of-eight (λ s. met (v .0) s (factsOf (arrivedOf v l) (seenIn v))) (λ s. met (v .0) s (factsOf l v)) (q (factsOf (arrivedOf v l) (seenIn v)) (factsOf l v)) (l .state)
+data-facts l v q = of-eight (λ s. met (v .0) s (factsOf (arrivedOf v l) v)) (λ s. met (v .0) s (factsOf l v)) (q (factsOf (arrivedOf v l) v) (factsOf l v)) (l .state)
 
 t3-facts : (b : Bool) (l : Link) → SameFacts l (bareView (cond b 34 33))
 t3-facts true l = refl
@@ -232,72 +169,68 @@ same-facts event.T1 l = refl
 same-facts event.T2 l = refl
 same-facts event.T3 l = t3-facts (eqb (l .c1) 0) l
 
--- the link and the signals of a number, behind what the event did by itself
-pub record Joined (l : Link) (v : View) (n : ℕ) (up : Bool) : Type 0 where
-  link : Behind (arrival (v .0)) up n (v .1) (v .2) l
-  words : Spoken v l n
-
 abbrev Met-so : Link → View → ℕ → Bool → Type 0
-Met-so l v n up = metAs (v .0) (l .state) (Met.Does n up) ≡ met (v .0) (l .state) (factsOf (arrivedOf v l) (seenIn v))
+Met-so l v n up = metAs (v .0) (l .state) (Met.Does n up) ≡ met (v .0) (l .state) (factsOf (arrivedOf v l) v)
 
-t3-joined : (b : Bool) (l : Link) (n : ℕ) (up : Bool) → Joined l (bareView (cond b 34 33)) n up
-unfolding signalsOf
-t3-joined true l n up = record { link = nothing up n 0 none l; words = refl }
-t3-joined false l n up = record { link = c1-less up n 0 none l; words = refl }
+t3-joined : (b : Bool) (l : Link) (n : ℕ) (up : Bool) → Behind (arrival (cond b 34 33)) up n 0 none l
+t3-joined true l n up = nothing up n 0 none l
+t3-joined false l n up = c1-less up n 0 none l
 
-joined : (e : Event) (l : Link) (n : ℕ) (up : Bool) → Met-so l (viewOf e (l .c1)) n up → Joined l (viewOf e (l .c1)) n up
-unfolding signalsOf
-joined event.Message l n up h = record { link = nothing up n 0 none l; words = refl }
-joined event.Emergency l n up h = record { link = ups-wished Ups.Emergency n 0 none l (down 1 (l .state) _ up n undecided-1 refl h); words = unheard (viewOf event.Emergency (l .c1)) l up n _ silent-1 h }
-joined event.EmergencyCeases l n up h = record { link = ups-wished Ups.Normal n 0 none l (down 2 (l .state) _ up n undecided-2 refl h); words = unheard (viewOf event.EmergencyCeases (l .c1)) l up n _ silent-2 h }
-joined event.Stop l n up h = record { link = nothing up n 0 none l; words = refl }
-joined event.Start l n up h = record { link = nothing up n 0 none l; words = refl }
-joined event.RetrieveBsnt l n up h = record { link = nothing up n 0 none l; words = refl }
-joined (event.Retrieval n) l k up h = record { link = nothing up k 0 n l; words = refl }
-joined event.FlushBuffers l n up h = record { link = nothing up n 0 none l; words = refl }
-joined event.Continue l n up h = record { link = nothing up n 0 none l; words = refl }
-joined (event.EstablishIndication p) l n up h = record { link = nothing up n p none l; words = refl }
-joined (event.EstablishConfirm p) l n up h = record { link = nothing up n p none l; words = refl }
-joined (event.ReleaseIndication f s) l n up h = record { link = nothing up n f none l; words = refl }
-joined event.ReleaseConfirm l n up h = record { link = nothing up n 0 none l; words = refl }
-joined (event.Data Arrived.INS n) l k up h = record { link = bsnt-taken up k 0 n l; words = unheard (viewOf (event.Data Arrived.INS n) (l .c1)) l up k _ silent-13 h }
-joined (event.Data Arrived.NM n) l k up h = record { link = bsnt-taken up k 0 n l; words = unheard (viewOf (event.Data Arrived.NM n) (l .c1)) l up k _ silent-14 h }
-joined (event.Data (Arrived.Other status) n) l k up h = record { link = bsnt-taken up k 0 n l; words = unheard (viewOf (event.Data (Arrived.Other status) n) (l .c1)) l up k _ silent-15 h }
-joined (event.Data Arrived.Short n) l k up h = record { link = bsnt-taken up k 0 n l; words = unheard (viewOf (event.Data Arrived.Short n) (l .c1)) l up k _ silent-15 h }
-joined (event.Data Arrived.Long n) l k up h = record { link = bsnt-taken up k 0 n l; words = unheard (viewOf (event.Data Arrived.Long n) (l .c1)) l up k _ silent-16 h }
-joined event.Resync l n up h = record { link = nothing up n 0 none l; words = refl }
-joined event.Recover l n up h = record { link = nothing up n 0 none l; words = refl }
-joined event.UnitData l n up h = record { link = nothing up n 0 none l; words = refl }
-joined (event.Retrieve k) l n up h = record { link = nothing up n 0 none l; words = refl }
-joined event.RetrieveComplete l n up h = record { link = nothing up n 0 none l; words = refl }
-joined event.ProvingUnsuccessful l n up h = record { link = nothing up n 0 none l; words = refl }
-joined event.Release l n up h = record { link = nothing up n 0 none l; words = refl }
-joined event.Outage l n up h = record { link = nothing up n 0 none l; words = refl }
-joined event.Recovered l n up h = record { link = nothing up n 0 none l; words = refl }
-joined event.ForceProving l n up h = record { link = mps-forced Mps.Normal n 0 none l (down 26 (l .state) _ up n undecided-26 refl h); words = unheard (viewOf event.ForceProving (l .c1)) l up n _ silent-26 h }
-joined event.ForceEmergency l n up h = record { link = mps-forced Mps.Emergency n 0 none l (down 27 (l .state) _ up n undecided-27 refl h); words = unheard (viewOf event.ForceEmergency (l .c1)) l up n _ silent-27 h }
-joined event.ClearForceModes l n up h = record { link = mps-forced Mps.Neutral n 0 none l (down 28 (l .state) _ up n undecided-28 refl h); words = unheard (viewOf event.ClearForceModes (l .c1)) l up n _ silent-28 h }
-joined (event.Congestion p) l n up h = record { link = nothing up n p none l; words = refl }
-joined event.CongestionCeased l n up h = record { link = nothing up n 0 none l; words = refl }
-joined event.T1 l n up h = record { link = nothing up n 0 none l; words = refl }
-joined event.T2 l n up h = record { link = nothing up n 0 none l; words = refl }
+joined : (e : Event) (l : Link) (n : ℕ) (up : Bool) → Met-so l (viewOf e (l .c1)) n up → let v = viewOf e (l .c1) in Behind (arrival (v .0)) up n (v .1) (v .2) l
+joined event.Message l n up h = nothing up n 0 none l
+joined event.Emergency l n up h = ups-wished Ups.Emergency n 0 none l (down 1 (l .state) _ up n undecided-1 refl h)
+joined event.EmergencyCeases l n up h = ups-wished Ups.Normal n 0 none l (down 2 (l .state) _ up n undecided-2 refl h)
+joined event.Stop l n up h = nothing up n 0 none l
+joined event.Start l n up h = nothing up n 0 none l
+joined event.RetrieveBsnt l n up h = nothing up n 0 none l
+joined (event.Retrieval n) l k up h = nothing up k 0 n l
+joined event.FlushBuffers l n up h = nothing up n 0 none l
+joined event.Continue l n up h = nothing up n 0 none l
+joined (event.EstablishIndication p) l n up h = nothing up n p none l
+joined (event.EstablishConfirm p) l n up h = nothing up n p none l
+joined (event.ReleaseIndication f s) l n up h = nothing up n f none l
+joined event.ReleaseConfirm l n up h = nothing up n 0 none l
+joined (event.Data Arrived.INS n) l k up h = bsnt-taken up k 0 n l
+joined (event.Data Arrived.NM n) l k up h = bsnt-taken up k 0 n l
+joined (event.Data (Arrived.Other status) n) l k up h = bsnt-taken up k 0 n l
+joined (event.Data Arrived.Short n) l k up h = bsnt-taken up k 0 n l
+joined (event.Data Arrived.Long n) l k up h = bsnt-taken up k 0 n l
+joined event.Resync l n up h = nothing up n 0 none l
+joined event.Recover l n up h = nothing up n 0 none l
+joined event.UnitData l n up h = nothing up n 0 none l
+joined (event.Retrieve k) l n up h = nothing up n 0 none l
+joined event.RetrieveComplete l n up h = nothing up n 0 none l
+joined event.ProvingUnsuccessful l n up h = nothing up n 0 none l
+joined event.Release l n up h = nothing up n 0 none l
+joined event.Outage l n up h = nothing up n 0 none l
+joined event.Recovered l n up h = nothing up n 0 none l
+joined event.ForceProving l n up h = mps-forced Mps.Normal n 0 none l (down 26 (l .state) _ up n undecided-26 refl h)
+joined event.ForceEmergency l n up h = mps-forced Mps.Emergency n 0 none l (down 27 (l .state) _ up n undecided-27 refl h)
+joined event.ClearForceModes l n up h = mps-forced Mps.Neutral n 0 none l (down 28 (l .state) _ up n undecided-28 refl h)
+joined (event.Congestion p) l n up h = nothing up n p none l
+joined event.CongestionCeased l n up h = nothing up n 0 none l
+joined event.T1 l n up h = nothing up n 0 none l
+joined event.T2 l n up h = nothing up n 0 none l
 joined event.T3 l n up h = t3-joined (eqb (l .c1) 0) l n up
 
-as-one : (l : Link) (v : View) (n : ℕ) (up : Bool) → Joined l v n up →
-    outcomeOf l (meetingOf v) (metAs (v .0) (l .state) (Met.Does n up)) ≡ Legal (appliedOf n up (v .1) (arrivedOf v l)) (signalsOf (saidOf n (seenIn v) (arrivedOf v l)))
-as-one l v n up j = λ i. Legal (with-state (over (stateOp n) (l .state)) (j .link i)) (j .words i)
+as-one : (l : Link) (v : View) (n : ℕ) (up : Bool) → Behind (arrival (v .0)) up n (v .1) (v .2) l →
+    let k = appliedOf n up (v .1) (arrivedOf v l) in
+    Legal k (signalsOf n (givenBy (v .1) (numberIn v) k)) ≡ leaving l (meetingOf v) (numberIn v) (metAs (v .0) (l .state) (Met.Does n up))
+unfolding signalsOf
+as-one l v n up j = ap (λ (k : Link). Legal (with-state (over (stateOp n) (l .state)) k) (signalsOf n (givenBy (v .1) (numberIn v) k))) (sym j)
 
 -- what was met of an event as the code looks at it
 pub acted : (l : Link) (e : Event) (n : ℕ) (up : Bool) →
     let v = viewOf e (l .c1) in
-    Met-so l v n up → Legal (appliedOf n up (v .1) (arrivedOf v l)) (signalsOf (saidOf n (seenIn v) (arrivedOf v l))) ≡ stepOf l e
+    let k = appliedOf n up (v .1) (arrivedOf v l) in
+    Met-so l v n up → Legal k (signalsOf n (givenBy (v .1) (numberIn v) k)) ≡ stepOf l e
 acted l e n up h =
     let v = viewOf e (l .c1) in
-    sym (as-one l v n up (joined e l n up h)) ∙ ap (outcomeOf l (meetingOf v)) (h ∙ same-facts e l) ∙ as-met l e
+    as-one l v n up (joined e l n up h) ∙ ap (leaving l (meetingOf v) (numberIn v)) (h ∙ same-facts e l) ∙ carried l v ∙ as-met l e
 
 pub turned-down : (l : Link) (e : Event) →
     let v = viewOf e (l .c1) in
-    refused ≡ met (v .0) (l .state) (factsOf (arrivedOf v l) (seenIn v)) → Illegal ≡ stepOf l e
+    refused ≡ met (v .0) (l .state) (factsOf (arrivedOf v l) v) → Illegal ≡ stepOf l e
 turned-down l e h =
     let v = viewOf e (l .c1) in
     ap (outcomeOf l (meetingOf v)) (h ∙ same-facts e l) ∙ as-met l e

@@ -1,4 +1,5 @@
 pub mod Arrivals
+pub mod Carried
 pub mod Expiries
 pub mod Kept
 pub mod Lent

@@ -11,7 +11,9 @@ use Rattle.unit.proofs.OneAnswer.{equal}
 use Rattle.link.specs.declared.Link.{Link}
 use Rattle.link.specs.declared.Signal.{Signal}
 use Rattle.link.specs.declared.Reply.{Reply}
+use Rattle.link.specs.declared.Event.{Event}
 use Rattle.link.specs.Step.{Outcome}
+use Rattle.link.specs.Stored.{viewOf}
 use Rattle.link.specs.Lent.{replied, Turned}
 use Rattle.link.proofs.fresh.Kinds as fresh-kinds
 use Rattle.link.proofs.fresh.Reads as fresh
@@ -29,19 +31,23 @@ fresh-one κs arguments x y e f = equal
 abbrev Both : Type 0
 Both = Link × Answered (List Signal)
 
-one-turn : {l : Link} {o : Outcome} {k m : Link} {r s : Reply} → Turned l o k r → Turned l o m s → _≡_ {A = Both} (k, replied r) (m, replied s)
+-- the record that an event leaves of a link, and what the reply stands for
+abbrev both : Link → Event → Link → Reply → Both
+both l e k r = (k, replied (viewOf e (l .c1)) k r)
+
+one-turn : {l : Link} {e : Event} {o : Outcome} {k m : Link} {r s : Reply} → Turned l e o k r → Turned l e o m s → both l e k r ≡ both l e m s
 one-turn p q = λ i. (equal (p .left) (q .left) i, equal (p .said) (q .said) i)
 
-pub step-one : OneReading step-kinds.ps step-kinds.r Both (λ κs arguments x e. (x .link, replied (x .reply))) step.Post
+pub step-one : OneReading step-kinds.ps step-kinds.r Both (λ κs arguments x e. both (arguments .0) (arguments .1 .0) (x .link) (x .reply)) step.Post
 step-one κs arguments x y e f = one-turn
 
-pub step-lent-one : OneHeld step-lent.ended Both (λ κs r e. (now (e .0), replied r)) (λ M 𝓤 H A mem run. step-lent.clauses 𝓤 H A mem run)
+pub step-lent-one : OneHeld step-lent.ended Both (λ κs arguments r e. both (now (arguments .0)) (arguments .1 .0) (now (e .0)) r) (λ M 𝓤 H A mem run. step-lent.clauses 𝓤 H A mem run)
 step-lent-one M 𝓤 H A mem run κs a g r s e f =
     let L : SProp 𝓤 = step-lent.clauses 𝓤 H A mem run κs a .ensures g r e in
     let R : SProp 𝓤 = step-lent.clauses 𝓤 H A mem run κs a .ensures g s f in
     fact-use 𝓤 _ (fst∗ 𝓤 L R) (λ p. fact-use 𝓤 _ (snd∗ 𝓤 L R) (λ q. factI 𝓤 _ (sep 𝓤 L R) (one-turn p q)))
 
-pub step-plain-one : OneReading step-plain-kinds.ps step-plain-kinds.r Both (λ κs arguments x e. (x .link, replied (x .reply))) step-plain.Post
+pub step-plain-one : OneReading step-plain-kinds.ps step-plain-kinds.r Both (λ κs arguments x e. both (arguments .0) (arguments .1 .0) (x .link) (x .reply)) step-plain.Post
 step-plain-one κs arguments x y e f = one-turn
 
 pub count-one : OneAnswer count-kinds.ps count-kinds.r count.Post

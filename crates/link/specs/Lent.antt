@@ -5,10 +5,12 @@ use mathlib.Core.List.{List}
 use Rattle.unit.specs.Answered.{Answered, refused, accepted}
 use Rattle.table6.specs.RefusalCodes.{REFUSED-STATE}
 use Rattle.link.specs.declared.Link.{Link}
+use Rattle.link.specs.declared.Event.{Event}
+use Rattle.link.specs.declared.View.{View}
 use Rattle.link.specs.declared.Signal.{Signal}
 use Rattle.link.specs.declared.Reply.{Reply}
 use Rattle.link.specs.Step.{Outcome, Illegal, Legal}
-use Rattle.link.specs.Stored.{signalsOf}
+use Rattle.link.specs.Stored.{viewOf, numberIn, givenBy, signalsOf}
 
 -- The record after an event: an illegal one leaves it as it was.
 abbrev pub leftBy : Link → Outcome → Link
@@ -20,12 +22,12 @@ abbrev pub saidBy : Outcome → Answered (List Signal)
 saidBy Illegal = refused REFUSED-STATE
 saidBy (Legal next signals) = accepted signals
 
--- What a reply of the code stands for.
-abbrev pub replied : Reply → Answered (List Signal)
-replied Reply.Illegal = refused REFUSED-STATE
-replied (Reply.Legal said) = accepted (signalsOf said)
+-- What a reply of the code stands for, at an event with this view and with this record after it.
+abbrev pub replied : View → Link → Reply → Answered (List Signal)
+replied v after Reply.Illegal = refused REFUSED-STATE
+replied v after (Reply.Legal words) = accepted (signalsOf words (givenBy (v .1) (numberIn v) after))
 
 -- The promise: a link that an event turns by this outcome has this record after it, and this is replied.
-pub record Turned (l : Link) (o : Outcome) (after : Link) (reply : Reply) : Type 0 where
+pub record Turned (l : Link) (e : Event) (o : Outcome) (after : Link) (reply : Reply) : Type 0 where
   pub left : after ≡ leftBy l o
-  pub said : replied reply ≡ saidBy o
+  pub said : replied (viewOf e (l .c1)) after reply ≡ saidBy o

@@ -1,9 +1,11 @@
 -- What the code's views, changes and words stand for. Nothing here has to be believed: the promises of the public functions tie it to specs/Step.antt.
 use Prim.Native.Nat.{ℕ, _-_}
-use mathlib.Core.Bool.{Bool, true, false, cond, _&&_}
+use mathlib.Core.Bool.{Bool, true, false, cond}
 use mathlib.Core.List.{List, map}
-use lib.Dec.{eqb, leb}
+use lib.Dec.{eqb}
 use Rattle.unit.specs.declared.Arrived.{Arrived}
+use Rattle.unit.specs.declared.Mps.{Mps}
+use Rattle.unit.specs.declared.Ups.{Ups}
 use Rattle.table6.specs.declared.Facts.{Facts}
 use Rattle.table6.specs.Summary.{Op, keep, put, over, Count, same, decided, less, Summary, still}
 use Rattle.table6.specs.Cell.{Told}
@@ -16,9 +18,8 @@ use Rattle.link.specs.declared.Event.{Event}
 use Rattle.link.specs.declared.Event.the-variants as event
 use Rattle.link.specs.declared.View.{View}
 use Rattle.link.specs.declared.Signal.{Signal}
-use Rattle.link.specs.declared.Said.{Said}
 use Rattle.link.specs.Effect.{with-state, taken, not-retrievable, generated}
-use Rattle.link.specs.Signal.{none, signalOf}
+use Rattle.link.specs.Signal.{num, none, signalOf}
 use Rattle.link.specs.Step.{Meeting, facts}
 
 -- VIEWS
@@ -76,9 +77,9 @@ viewOf event.T1 c1 = bareView 31
 viewOf event.T2 c1 = bareView 32
 viewOf event.T3 c1 = bareView (t3RowOf c1)
 
--- An event as the code looks at it: the number of DATA goes to BSNT and into no signal, and so it is left out.
-abbrev pub seenIn : View → View
-seenIn v = (v .0, v .1, cond (leb 13 (v .0) && leb (v .0) 16) none (v .2), v .3, v .4)
+-- the number in the octets of an event with this view: of a release its source stands there
+abbrev pub numberIn : View → Num
+numberIn v = cond (eqb (v .0) 11) (num 0 0 (v .3)) (v .2)
 
 -- the meeting that a view shows: its names for the five
 abbrev pub meetingOf : View → Meeting
@@ -127,13 +128,22 @@ appliedOf n up field l = with-state (over (stateOp n) (l .state)) (summedUp (cha
 
 -- SIGNALS
 
--- what a link says, at an event with this view, with the words of a cell
-abbrev pub saidOf : ℕ → View → Link → Said
-saidOf words v l = record { words = words; param = meetingOf v .param; num = meetingOf v .number; mps = l .mps; ups = l .ups; bsnt = l .bsnt .num }
+-- what the words of a step may take
+pub record Given : Type 0 where
+  pub param : ℕ
+  pub num : Num
+  pub mps : Mps
+  pub ups : Ups
+  pub bsnt : Num
 
--- what is told, with what the step says beside its words
-abbrev pub meantBy : Said → Told → Signal
+-- a parameter and a number, of the event's octets, and the rest of the link that the step left
+abbrev pub givenBy : ℕ → Num → Link → Given
+givenBy param num l = record { param = param; num = num; mps = l .mps; ups = l .ups; bsnt = l .bsnt .num }
+
+-- what is told, with what it may take
+abbrev pub meantBy : Given → Told → Signal
 meantBy o a = signalOf (o .param) (o .num) (o .mps) (o .ups) (o .bsnt) a
 
-unfoldable pub signalsOf : Said → List Signal
-signalsOf o = map (meantBy o) (said (o .words))
+-- the signals of a cell, by its number
+unfoldable pub signalsOf : ℕ → Given → List Signal
+signalsOf words o = map (meantBy o) (said words)

@@ -12,12 +12,12 @@ ghost use mathlib.Core.Path.{_≡_};
 ghost use mathlib.Core.Bool.{cond};
 ghost use Prim.Native.Nat.{_-_, _≤_};
 ghost use lib.ListN.{length};
-ghost use Rattle.table6.specs.Stored.{bitOf, timersAfter, flagsAfter, upsAfter, SoundNumber};
+ghost use Rattle.table6.specs.Stored.{bitOf, timersAfter, flagsAfter, upsAfter, said, SoundNumber};
 ghost use Rattle.link.specs.Effect.{with-bsnt, with-mps, with-ups, with-c1, taken, generated};
 ghost use Rattle.link.specs.Fresh.{freshLink};
 ghost use Rattle.link.specs.Lent.{Turned};
 ghost use Rattle.link.specs.Step.{named, stepOf};
-ghost use Rattle.link.specs.Stored.{dataRowOf, t3RowOf, viewOf, seenIn, factsOf, arrivedOf, appliedOf, saidOf, signalsOf};
+ghost use Rattle.link.specs.Stored.{dataRowOf, t3RowOf, viewOf, factsOf, arrivedOf, appliedOf};
 
 // A number of 24 bits, its highest octet first; or the three values of a REPORT.
 pub struct Num {
@@ -121,8 +121,8 @@ pub struct Signal {
 
 const ZERO: Num = Num { a: 0, b: 0, c: 0 };
 
-// An event as Table 6 meets it: its row, and the parameter, the number, the source of a release and the length of a message that it brings. The number of
-// DATA goes to BSNT, and is left out.
+// An event as Table 6 meets it: its row, and the parameter, the number, the source of a release and the length of a message that it brings. The number is there
+// for the definitions: BSNT takes it from the event, and a signal from the event's octets.
 // Read by these names; a tuple, so that `view_of` has a line an event (D63).
 pub struct View(pub u8, pub u8, pub Num, pub u8, pub u16);
 
@@ -149,7 +149,7 @@ fn t3_row(c1: u16) -> u8
 }
 
 fn view_of(e: Event, c1: u16) -> View
-    ensures { λ r. ⌜ r ≡ seenIn (viewOf e c1) ⌝ }
+    ensures { λ r. ⌜ r ≡ viewOf e c1 ⌝ }
 {
     match e {
         Event::Message => View(rows::MESSAGE_FOR_TRANSMISSION, 0, ZERO, 0, 0),
@@ -171,7 +171,7 @@ fn view_of(e: Event, c1: u16) -> View
             0,
         ),
         Event::ReleaseConfirm => View(rows::RELEASE_CONFIRM, 0, ZERO, 0, 0),
-        Event::Data(a, _) => View(data_row(a), 0, ZERO, 0, 0),
+        Event::Data(a, n) => View(data_row(a), 0, n, 0, 0),
         Event::Resync => View(rows::RESYNC, 0, ZERO, 0, 0),
         Event::Recover => View(rows::RECOVER, 0, ZERO, 0, 0),
         Event::UnitData => View(rows::UNITDATA, 0, ZERO, 0, 0),
@@ -436,46 +436,18 @@ fn applied(n: u64, up: bool, field: u8, l: Link) -> Link
     }
 }
 
-// What a step says: the signals of its cell, and what they take from the event and from the link. What an event altered by itself none of its signals takes.
-pub struct Said {
-    // The number of the cell, which has its signals, as effects.rt of table6 has it.
-    pub words: u64,
-    pub param: u8,
-    pub num: Num,
-    pub mps: Mps,
-    pub ups: Ups,
-    pub bsnt: Num,
-}
-
-// How many signals that is.
-pub fn count(o: Said) -> u8
-    ensures { λ r. ⌜ r ≡ length (signalsOf o) ⌝ }
+// How many signals a cell says, by its number.
+pub fn count(words: u64) -> u8
+    ensures { λ r. ⌜ r ≡ length (said words) ⌝ }
 {
-    (o.words / effects::SAYS % 16) as u8
+    (words / effects::SAYS % 16) as u8
 }
 
-// What is said with the words of a cell.
-fn saying(words: u64, v: View, l: Link) -> Said
-    ensures { λ r. ⌜ r ≡ saidOf words v l ⌝ }
-{
-    let View(_, param, num, _, _) = v;
-    let mps = l.mps;
-    let ups = l.ups;
-    let bsnt = l.bsnt.num;
-    Said {
-        words: words,
-        param: param,
-        num: num,
-        mps: mps,
-        ups: ups,
-        bsnt: bsnt,
-    }
-}
-
-// What is answered of an event: that it is illegal, or what is said.
+// What is answered of an event: that it is illegal, or the number of its cell, which has its signals, as effects.rt of table6 has it. What they carry is taken where
+// they are written, from the event's octets and from the link that is left: no cell alters what its signals take.
 pub enum Reply {
     Illegal,
-    Legal(Said),
+    Legal(u64),
 }
 
 // A record after an event, and what is answered.
@@ -486,7 +458,7 @@ pub struct Turn {
 
 // One event for one link, by value. An illegal event leaves the record as it was.
 fn step(l: Link, e: Event) -> Turn
-    ensures { λ r. ⌜ Turned l (stepOf l e) (r .link) (r .reply) ⌝ }
+    ensures { λ r. ⌜ Turned l e (stepOf l e) (r .link) (r .reply) ⌝ }
 {
     let v = view_of(e, l.c1);
     let a = arrived(e, l);
@@ -500,10 +472,9 @@ fn step(l: Link, e: Event) -> Turn
         },
         Met::Does(n, up) => {
             let next = applied(n, up, param, a);
-            let said = saying(n, v, a);
             Turn {
                 link: next,
-                reply: Reply::Legal(said),
+                reply: Reply::Legal(n),
             }
         }
     }
@@ -511,7 +482,7 @@ fn step(l: Link, e: Event) -> Turn
 
 // The same for a record that is lent, and altered there.
 fn step_lent(l: &mut Link, e: Event) -> Reply
-    ensures { λ r. ⌜ Turned (now (l .entry)) (stepOf (now (l .entry)) e) (now (l .exit)) r ⌝ }
+    ensures { λ r. ⌜ Turned (now (l .entry)) e (stepOf (now (l .entry)) e) (now (l .exit)) r ⌝ }
 {
     let t = step(*l, e);
     *l = t.link;
@@ -520,7 +491,7 @@ fn step_lent(l: &mut Link, e: Event) -> Reply
 
 // The same with plain parameters: a copy is lent, so that no caller of this walks its code by hand.
 pub fn step_plain(l: Link, e: Event) -> Turn
-    ensures { λ r. ⌜ Turned l (stepOf l e) (r .link) (r .reply) ⌝ }
+    ensures { λ r. ⌜ Turned l e (stepOf l e) (r .link) (r .reply) ⌝ }
 {
     let mut k = l;
     let reply = step_lent(&mut k, e);

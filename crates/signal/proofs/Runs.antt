@@ -10,10 +10,9 @@ use lib.ListN.{length, take, drop, length-append}
 use borrow.Author.Tests.{ltb-true, ltb-false}
 use Rattle.table6.specs.Stored.{wordAt, lowest}
 use Rattle.table6.proofs.Lists.{alike, alike-from}
-use Rattle.link.specs.declared.Said.{Said}
 use Rattle.link.specs.declared.Signal.{Signal}
 use Rattle.link.specs.Kept.{brings, brought}
-use Rattle.link.specs.Stored.{meantBy}
+use Rattle.link.specs.Stored.{Given, meantBy}
 use Rattle.octet.specs.Octets.{at, over, putAt}
 use Rattle.event.specs.Frame.{linkAt}
 use Rattle.signal.specs.declared.Run.{Run}
@@ -103,10 +102,10 @@ plus-add : (i l : ℕ) → plus i l ≡ l + i
 plus-add zero l = omega arith
 plus-add (suc i) l = omega (arith, plus-add i l)
 
-abbrev pub spoken : Said → ℕ → ℕ → List Signal
+abbrev pub spoken : Given → ℕ → ℕ → List Signal
 spoken o n rest = map (meantBy o) (map wordAt (lowest n rest))
 
-module _ (o : Said) (e m : List ℕ) (b : at e 3 < 256) where
+module _ (o : Given) (e m : List ℕ) (b : at e 3 < 256) where
   of-known : (w : ℕ) → w < 36 → signalOctets (linkAt e) m (meantBy o (wordAt w)) ≡ frontOf e ++ fixedAt w
   of-known w h = fronted e m (meantBy o (wordAt w)) b ∙ ap (λ (l : List ℕ). frontOf e ++ l) (sym (fixed-known o m w h))
 
@@ -132,23 +131,23 @@ module _ (o : Said) (e m : List ℕ) (b : at e 3 < 256) where
 
 -- AT MOST ONE CARRIES SOMETHING
 
-brings-last : (o : Said) (w : ℕ) (b : Bool) → 36 ≤ w → ltb w 46 ≡ b → brings (meantBy o (wordAt w)) ≡ true
+brings-last : (o : Given) (w : ℕ) (b : Bool) → 36 ≤ w → ltb w 46 ≡ b → brings (meantBy o (wordAt w)) ≡ true
 brings-last o w true h e = alike-from (λ w. brings (meantBy o (wordAt w))) (λ w. true) 36 10 true refl w h (ltb-true w 46 e)
 brings-last o w false h e = rw (last-word w (ltb-false w 46 e)) refl
 
-first-brings : (o : Said) (l rest : ℕ) → 36 ≤ rest % 256 → brought (spoken o (suc l) rest) ≡ 1 + brought (spoken o l (rest / 256))
+first-brings : (o : Given) (l rest : ℕ) → 36 ≤ rest % 256 → brought (spoken o (suc l) rest) ≡ 1 + brought (spoken o l (rest / 256))
 first-brings o l rest h = rw (brings-last o (rest % 256) (ltb (rest % 256) 46) h refl) refl
 
-others-bring : (o : Said) (i l rest : ℕ) → brought (spoken o l (after i rest)) ≤ brought (spoken o (plus i l) rest)
+others-bring : (o : Given) (i l rest : ℕ) → brought (spoken o l (after i rest)) ≤ brought (spoken o (plus i l) rest)
 others-bring o zero l rest = omega arith
 others-bring o (suc i) l rest = omega (arith, others-bring o i l (rest / 256))
 
 -- of those behind a run no more carry something than of all
-pub behind-brings : (o : Said) (n i l rest : ℕ) → l + i ≡ n → brought (spoken o l (after i rest)) ≤ brought (spoken o n rest)
+pub behind-brings : (o : Given) (n i l rest : ℕ) → l + i ≡ n → brought (spoken o l (after i rest)) ≤ brought (spoken o n rest)
 behind-brings o n i l rest h = subst (λ (k : ℕ). brought (spoken o l (after i rest)) ≤ brought (spoken o k rest)) (plus-add i l ∙ h) (others-bring o i l rest)
 
 -- behind one that carries something a run ends at the end
-pub at-end : (o : Said) (front : List ℕ) (rest : ℕ) (run r : Run) (d out : List ℕ) → 36 ≤ rest % 256 → run .rest ≡ rest / 256 → brought (spoken o (suc (run .left)) rest) ≤ 1 →
+pub at-end : (o : Given) (front : List ℕ) (rest : ℕ) (run r : Run) (d out : List ℕ) → 36 ≤ rest % 256 → run .rest ≡ rest / 256 → brought (spoken o (suc (run .left)) rest) ≤ 1 →
     Ran front run d r out → Halts r → r .left ≡ 0
 at-end o front rest run r d out h e one t (inl z) = z
 at-end o front rest run r d out h e one t (inr g) = by (r .left) refl where

@@ -12,10 +12,9 @@ use Rattle.table6.specs.Cell.{Told}
 use Rattle.table6.specs.Stored.{words, wordAt}
 use Rattle.table6.proofs.Lists.{alike, past}
 use Rattle.link.specs.declared.Carries.{Carries}
-use Rattle.link.specs.declared.Said.{Said}
 use Rattle.link.specs.declared.Signal.{Signal}
 use Rattle.link.specs.Kept.{messagesIn, messages}
-use Rattle.link.specs.Stored.{meantBy}
+use Rattle.link.specs.Stored.{Given, meantBy}
 use Rattle.octet.specs.Octets.{at, over, putAt}
 use Rattle.event.specs.Frame.{SG, written, linkAt, lengthAt}
 use Rattle.signal.specs.SignalRecord.{bodyOf, signalOctets, joined, Put, SignalReread, SignalRewritten, SignalsApart}
@@ -33,7 +32,7 @@ body-small Carries.Message m h = h
 -- ONE SIGNAL, as the code writes it
 
 -- of a word that is known beforehand nothing that the event or the link brings is told
-pub fixed-known : (o : Said) (m : List ℕ) (w : ℕ) → w < 36 → fixedAt w ≡ fromCode m (meantBy o (wordAt w))
+pub fixed-known : (o : Given) (m : List ℕ) (w : ℕ) → w < 36 → fixedAt w ≡ fromCode m (meantBy o (wordAt w))
 unfolding fixedAt
 fixed-known o m w h = alike fixedAt (λ w. fromCode m (meantBy o (wordAt w))) 36 [] refl w h
 

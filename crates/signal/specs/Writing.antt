@@ -1,5 +1,5 @@
 -- How the code writes a signal: first the mark and the link's number, then, by its word, the octets from the code on. Nothing here has to be believed: the promise
--- of `put_all` names none of it.
+-- of a step names none of it.
 use Prim.Native.Nat.{ℕ, zero, suc, _+_, _*_, _/_, _%_, _≤_, _<_}
 use mathlib.Core.Path.{_≡_}
 use mathlib.Core.Logic.{_⊎_}
@@ -8,12 +8,18 @@ use lib.ListN.{length, take, drop, getD}
 use Rattle.unit.specs.declared.Mps.{Mps}
 use Rattle.unit.specs.declared.Ups.{Ups}
 use Rattle.table6.specs.Stored.{wordAt, from}
+use Rattle.link.specs.declared.Link.{Link}
 use Rattle.link.specs.declared.Signal.{Signal}
 use Rattle.link.specs.Signal.{none, signalOf}
+use Rattle.link.specs.Stored.{Given, givenBy}
 use Rattle.octet.specs.Octets.{at, putAt}
-use Rattle.event.specs.Frame.{headOctets, messageOctets, SG, headOf, lengthAt, messageOf}
+use Rattle.event.specs.Frame.{headOctets, messageOctets, SG, headOf, paramAt, numberAt, lengthAt, messageOf}
 use Rattle.signal.specs.declared.Run.{Run}
 use Rattle.signal.specs.SignalRecord.{bodyOf}
+
+-- What signals are given: by the octets of the event, and by the link that is left.
+abbrev pub given : Link → List ℕ → Given
+given l e = givenBy (paramAt e) (numberAt e) l
 
 -- The octets of an event are as many as it says.
 abbrev pub Whole : List ℕ → Type 0

@@ -2,8 +2,8 @@
 mod report;
 
 use event::HEAD;
+use link::Link;
 use link::Num;
-use link::Said;
 use link::count;
 use octet::put;
 use octet::put_at;
@@ -40,7 +40,7 @@ ghost use Rattle.link.specs.Stored.{meantBy, signalsOf};
 ghost use Rattle.octet.specs.Octets.{over, putAt};
 ghost use Rattle.event.specs.Frame.{headOctets, messageOctets, linkAt, lengthAt, messageOf};
 ghost use Rattle.signal.specs.SignalRecord.{bodyOf, signalOctets, joined, Put};
-ghost use Rattle.signal.specs.Writing.{Whole, frontOf, fromCode, PutCode, fixedWords, fixedAt, carryingAt, Ran, Halts};
+ghost use Rattle.signal.specs.Writing.{given, Whole, frontOf, fromCode, PutCode, fixedWords, fixedAt, carryingAt, Ran, Halts};
 
 // The mark of a signal.
 const SG: [u8; 2] = *b"SG";
@@ -171,14 +171,13 @@ fn offered(mps: Mps, ups: Ups) -> u8
 }
 
 // Writes a signal that carries something from octet 4 on, and answers its length. What it carries is told by ranges of words.
-fn put_carrying(out: &mut [u8], w: u64, said: Said, e: &[u8]) -> usize
-    requires { ⌜ (fixedWords ≤ w) × Whole (now e) × (headOctets + length (bodyOf (meantBy said (wordAt w) .carries) (messageOf (now e))) ≤ length (now out)) ⌝ }
-    ensures { λ r. ⌜ PutCode (fromCode (messageOf (now (e .entry))) (meantBy said (wordAt w))) (now (out .entry)) r (now (out .exit)) ⌝ }
+fn put_carrying(out: &mut [u8], w: u64, l: Link, e: &[u8]) -> usize
+    requires { ⌜ (fixedWords ≤ w) × Whole (now e) × (headOctets + length (bodyOf (meantBy (given l (now e)) (wordAt w) .carries) (messageOf (now e))) ≤ length (now out)) ⌝ }
+    ensures { λ r. ⌜ PutCode (fromCode (messageOf (now (e .entry))) (meantBy (given l (now (e .entry))) (wordAt w))) (now (out .entry)) r (now (out .exit)) ⌝ }
 {
-    let mps = said.mps;
-    let ups = said.ups;
-    let num = said.num;
-    let bsnt = said.bsnt;
+    let mps = l.mps;
+    let ups = l.ups;
+    let bsnt = l.bsnt.num;
     let eight = carrying(w);
     put_at(out, CODE, &eight);
     if effects::RECEIVED_MESSAGE <= w {
@@ -194,10 +193,17 @@ fn put_carrying(out: &mut [u8], w: u64, said: Said, e: &[u8]) -> usize
         return with_param(out, offered(mps, ups));
     }
     if effects::LINK_CONGESTED <= w {
-        return with_param(out, said.param);
+        return with_param(out, e[5]);
     }
     if effects::RETRIEVE_REQUEST <= w {
-        return with_number(out, num);
+        return with_number(
+            out,
+            Num {
+                a: e[6],
+                b: e[7],
+                c: e[8],
+            },
+        );
     }
     with_number(out, bsnt)
 }
@@ -221,12 +227,12 @@ fn put_known(out: &mut [u8], front: [u8; 4], w: u64)
 }
 
 // Writes one that carries something, and answers its length.
-fn put_other(out: &mut [u8], front: [u8; 4], w: u64, said: Said, e: &[u8]) -> usize
-    requires { ⌜ (fixedWords ≤ w) × (front ≡ frontOf (now e)) × Whole (now e) × (headOctets + length (bodyOf (meantBy said (wordAt w) .carries) (messageOf (now e))) ≤ length (now out)) ⌝ }
-    ensures { λ r. ⌜ Put (signalOctets (linkAt (now (e .entry))) (messageOf (now (e .entry))) (meantBy said (wordAt w))) (now (out .entry)) r (now (out .exit)) ⌝ }
+fn put_other(out: &mut [u8], front: [u8; 4], w: u64, l: Link, e: &[u8]) -> usize
+    requires { ⌜ (fixedWords ≤ w) × (front ≡ frontOf (now e)) × Whole (now e) × (headOctets + length (bodyOf (meantBy (given l (now e)) (wordAt w) .carries) (messageOf (now e))) ≤ length (now out)) ⌝ }
+    ensures { λ r. ⌜ Put (signalOctets (linkAt (now (e .entry))) (messageOf (now (e .entry))) (meantBy (given l (now (e .entry))) (wordAt w))) (now (out .entry)) r (now (out .exit)) ⌝ }
 {
     put(out, &front);
-    put_carrying(out, w, said, e)
+    put_carrying(out, w, l, e)
 }
 
 // How far the writer is: the octets that are written, the words that are left, the lowest next, and how many they are.
@@ -259,18 +265,18 @@ fn put_run(out: &mut [u8], front: [u8; 4], run: Run) -> Run
 
 // Writes what a step says over the front of out, one record behind the other, and answers the length of it all. No step says two signals that carry something: so
 // there is no loop around the one, and what it takes is made ready for it alone.
-pub fn put_all(out: &mut [u8], said: Said, e: &[u8]) -> usize
-    requires { ⌜ (headOctets ≤ length (now e)) × (lengthAt (now e) ≡ length (messageOf (now e))) × (length (messageOf (now e)) ≤ messageOctets) × (brought (signalsOf said) ≤ 1) × (length (joined (linkAt (now e)) (messageOf (now e)) (signalsOf said)) ≤ length (now out)) ⌝ }
-    ensures { λ r. ⌜ Put (joined (linkAt (now (e .entry))) (messageOf (now (e .entry))) (signalsOf said)) (now (out .entry)) r (now (out .exit)) ⌝ }
+pub fn put_all(out: &mut [u8], words: u64, l: Link, e: &[u8]) -> usize
+    requires { ⌜ (headOctets ≤ length (now e)) × (lengthAt (now e) ≡ length (messageOf (now e))) × (length (messageOf (now e)) ≤ messageOctets) × (brought (signalsOf words (given l (now e))) ≤ 1) × (length (joined (linkAt (now e)) (messageOf (now e)) (signalsOf words (given l (now e)))) ≤ length (now out)) ⌝ }
+    ensures { λ r. ⌜ Put (joined (linkAt (now (e .entry))) (messageOf (now (e .entry))) (signalsOf words (given l (now (e .entry))))) (now (out .entry)) r (now (out .exit)) ⌝ }
 {
-    let n = count(said);
+    let n = count(words);
     let front = front_of(e);
     let first = put_run(
         out,
         front,
         Run {
             at: 0,
-            rest: said.words / effects::FIRST,
+            rest: words / effects::FIRST,
             left: n,
         },
     );
@@ -278,7 +284,7 @@ pub fn put_all(out: &mut [u8], said: Said, e: &[u8]) -> usize
     if first.left == 0 {
         return at;
     }
-    let m = put_other(&mut out[at..], front, first.rest % 256, said, e);
+    let m = put_other(&mut out[at..], front, first.rest % 256, l, e);
     let last = put_run(
         out,
         front,

@@ -5,7 +5,6 @@ use crate::Refusal;
 use event::Reading;
 use link::Link;
 use link::Reply;
-use link::Said;
 use record::RECORD;
 use record::Slot;
 use table6::events;
@@ -13,7 +12,9 @@ ghost use mathlib.Core.Path.{_≡_};
 ghost use Prim.Native.Nat.{_≤_, _<_};
 ghost use lib.ListN.{length, drop};
 ghost use Rattle.record.specs.LinkRecord.{slotOf, found};
+ghost use Rattle.unit.specs.Checks.{passed};
 ghost use Rattle.event.specs.Frame.{headOctets};
+ghost use Rattle.event.specs.EventRecord.{readingOf};
 ghost use Rattle.step.specs.Step.{records, recordAt, idle, checks};
 ghost use Rattle.step.specs.Plan.{Planned};
 
@@ -36,15 +37,15 @@ fn idle(l: Link, code: u8) -> bool
         || ((code == events::T3_EXPIRED) && !l.t3)
 }
 
-// What the checks come to: a refusal, or the link, its record after the event and what is said.
+// What the checks come to: a refusal, or the link, its record after the event and the number of the cell, which has its signals.
 pub enum Plan {
     Refused(Refusal),
-    Go { link: u16, next: Link, said: Said },
+    Go { link: u16, next: Link, words: u64 },
 }
 
 // Checks 5 to 9, of an event that fits. It is read where it is used, behind the record: so it is looked at once, and little is held meanwhile.
 fn link_plan(t: &[u8], e: &[u8], room: usize) -> Plan
-    requires { ⌜ headOctets ≤ length (now e) ⌝ }
+    requires { ⌜ (headOctets ≤ length (now e)) × (readingOf (now e) ≡ passed) ⌝ }
     ensures { λ r. ⌜ Planned (drop 9 (checks (now (t .entry)) (now (e .entry)) room)) (now (t .entry)) (now (e .entry)) r ⌝ }
 {
     let k = event::link(e);
@@ -62,14 +63,14 @@ fn link_plan(t: &[u8], e: &[u8], room: usize) -> Plan
             let reply = turn.reply;
             match reply {
                 Reply::Illegal => Plan::Refused(Refusal::Cell),
-                Reply::Legal(said) => {
+                Reply::Legal(words) => {
                     if room < ROOM {
                         return Plan::Refused(Refusal::Room);
                     }
                     Plan::Go {
                         link: k,
                         next: next,
-                        said: said,
+                        words: words,
                     }
                 }
             }

@@ -104,12 +104,12 @@ pub fn step(table: &mut [u8], event: &[u8], out: &mut [u8]) -> u64
     let e = &event[..];
     match checks::planned(&table[..], e, out.len()) {
         Plan::Refused(r) => r.place() as u64 * PLACE + r.number() as u64,
-        Plan::Go { link, next, said } => {
+        Plan::Go { link, next, words } => {
             // The record first: fewer values are held while the signals are written.
             let packed = record::pack(next);
             put_at(table, RECORD * link as usize, &packed);
-            let octets = put_all(out, said, e) as u64;
-            let signals = link::count(said) as u64;
+            let octets = put_all(out, words, next, e) as u64;
+            let signals = link::count(words) as u64;
             octets * OCTETS + signals * SIGNALS
         }
     }

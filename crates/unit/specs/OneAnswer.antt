@@ -30,10 +30,10 @@ OneAnswer {n} ps r Promise =
 
 -- The same of a function to which a record is lent, whose promise Rattle reads only in its logic: in every model, where the promise holds of two answers on
 -- the same arguments, they are one in what is read off them and off what was lent.
-abbrev pub OneHeld : (T : Ended) (X : Type 0) → ((κs : Lfts (T .signature .lifetimes)) → Res (T .signature) κs → AtExit T κs → X) →
+abbrev pub OneHeld : (T : Ended) (X : Type 0) → ((κs : Lfts (T .signature .lifetimes)) → Args (T .signature) κs → Res (T .signature) κs → AtExit T κs → X) →
     ((M : Type 1) (𝓤 : URA M) (H : Heap 𝓤) (A : Atoms 𝓤) (mem : Memory → SProp 𝓤) (run : Routine → Fun 𝓤) → Clauses 𝓤 T) → Type 2
 OneHeld T X read promise =
     (M : Type 1) (𝓤 : URA M) (H : Heap 𝓤) (A : Atoms 𝓤) (mem : Memory → SProp 𝓤) (run : Routine → Fun 𝓤)
     (κs : Lfts (T .signature .lifetimes)) (a : Args (T .signature) κs) (g : promise M 𝓤 H A mem run κs a .ghost)
     (x y : Res (T .signature) κs) (e f : AtExit T κs) →
-    ent 𝓤 (sep 𝓤 (promise M 𝓤 H A mem run κs a .ensures g x e) (promise M 𝓤 H A mem run κs a .ensures g y f)) (fact 𝓤 (read κs x e ≡ read κs y f))
+    ent 𝓤 (sep 𝓤 (promise M 𝓤 H A mem run κs a .ensures g x e) (promise M 𝓤 H A mem run κs a .ensures g y f)) (fact 𝓤 (read κs a x e ≡ read κs a y f))

@@ -9,7 +9,7 @@ cast-result : tie.Need-cast-result
 cast-result c = search needs
 
 returns : tie.Need-returns
-returns c = sym (counted (c .before .args .o))
+returns c = sym (counted (c .args .words))
 
 pub count-spec : {M : Type 1} → statement M
 count-spec = tie.close (tie.spec cast-result returns)

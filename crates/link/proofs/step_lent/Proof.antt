@@ -71,7 +71,7 @@ stayed = (stay-ref (0 ∷ []) tt (plain (λ _. L.the-row)), (stay-none (λ _. E.
 
 -- what both contracts say of a turn
 abbrev Fits : Link → Event → Turn → Type 0
-Fits l e t = Turned l (stepOf l e) (t .link) (t .reply)
+Fits l e t = Turned l e (stepOf l e) (t .link) (t .reply)
 
 -- a record's machine value
 unfoldable machine : Link → Val

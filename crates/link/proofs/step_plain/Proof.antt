@@ -72,7 +72,7 @@ stayed = (stay-none (λ _. L.the-row) yes, (stay-none (λ _. E.the-row) yes, tt)
 
 -- what both contracts say of the record at exit and the reply
 abbrev Fits : Link → Event → Link → Reply → Type 0
-Fits l e k s = Turned l (stepOf l e) k s
+Fits l e k s = Turned l e (stepOf l e) k s
 
 abbrev turn : Link → Reply → Turn
 turn k s = record { link = k; reply = s }

@@ -1,30 +1,15 @@
 -- `link::view_of` meets its contract: an arm an event. Assumes nothing.
 use borrow.Author.Needs.{needs}
-use mathlib.Core.Path.{_≡_, refl, sym, ap, _∙_}
-use mathlib.Core.Bool.{Bool, true, false, cond}
+use mathlib.Core.Path.{_≡_, sym, ap, _∙_}
 use Prim.Native.Nat.{ℕ}
-use lib.Dec.{eqb}
-use Rattle.unit.specs.declared.Arrived.{Arrived}
-use Rattle.link.specs.declared.Num.{Num}
 use Rattle.link.specs.declared.Event.{Event}
-use Rattle.link.specs.Stored.{bareView, withNumber, dataRowOf, viewOf, seenIn}
+use Rattle.link.specs.Stored.{bareView, withNumber, viewOf}
 use Rattle.link.proofs.view_of.Statement.{statement}
 use Rattle.link.proofs.view_of.Tie as tie
 
 -- what an arm knows of the event
-seen : {e f : Event} (c1 : ℕ) → e ≡ f → seenIn (viewOf f c1) ≡ seenIn (viewOf e c1)
-seen c1 p = ap (λ (x : Event). seenIn (viewOf x c1)) (sym p)
-
-data-seen : (a : Arrived) (n : Num) → bareView (dataRowOf a) ≡ seenIn (withNumber (dataRowOf a) n)
-data-seen Arrived.INS n = refl
-data-seen Arrived.NM n = refl
-data-seen (Arrived.Other status) n = refl
-data-seen Arrived.Short n = refl
-data-seen Arrived.Long n = refl
-
-t3-seen : (b : Bool) → bareView (cond b 34 33) ≡ seenIn (bareView (cond b 34 33))
-t3-seen true = refl
-t3-seen false = refl
+seen : {e f : Event} (c1 : ℕ) → e ≡ f → viewOf f c1 ≡ viewOf e c1
+seen c1 p = ap (λ (x : Event). viewOf x c1) (sym p)
 
 enum-told : tie.Need-enum-told
 enum-told c = search needs
@@ -167,7 +152,7 @@ returns-13 c = seen _ (c .enum-told9 .given .1)
 returns-14 : tie.Need-returns-14
 returns-14 c =
     let e = c .before .before .e5 .given in
-    ap bareView (c .data-row .ensures) ∙ data-seen (e .0 .0) (e .0 .1 .0) ∙ seen _ (e .1)
+    ap (λ (row : ℕ). withNumber row (e .0 .1 .0)) (c .data-row .ensures) ∙ seen _ (e .1)
 
 returns-15 : tie.Need-returns-15
 returns-15 c = seen _ (c .enum-told10 .given .1)
@@ -218,7 +203,7 @@ returns-30 : tie.Need-returns-30
 returns-30 c = seen _ (c .enum-told23 .given .1)
 
 returns-31 : tie.Need-returns-31
-returns-31 c = ap bareView (c .t3-row .ensures) ∙ t3-seen (eqb (c .before .before .before .args .c1) 0) ∙ seen _ (c .before .enum-told24 .given .1)
+returns-31 c = ap bareView (c .t3-row .ensures) ∙ seen _ (c .before .enum-told24 .given .1)
 
 pub view-of-spec : {M : Type 1} → statement M
 view-of-spec =

@@ -6,34 +6,33 @@ use mathlib.Core.Logic.{inl, inr}
 use mathlib.Core.List.{List, [], _++_, append-nil}
 use Prim.Native.Nat.{ℕ, suc, _+_, _-_, _*_, _/_, _%_, _≤_}
 use lib.ListN.{length, take, drop, length-append, length-take, length-drop}
-use Rattle.table6.specs.Stored.{wordAt}
-use Rattle.link.specs.declared.Said.{Said}
+use Rattle.table6.specs.Stored.{wordAt, said}
 use Rattle.link.specs.declared.Signal.{Signal}
 use Rattle.link.specs.Kept.{brought}
-use Rattle.link.specs.Stored.{meantBy, signalsOf}
+use Rattle.link.specs.Stored.{Given, meantBy, signalsOf}
 use Rattle.link.proofs.Spoken.{counted}
 use Rattle.octet.specs.Octets.{at, over, putAt}
 use Rattle.octet.proofs.Over.{lent, length-put}
 use Rattle.event.specs.Frame.{linkAt, messageOf}
 use Rattle.signal.specs.declared.Run.{Run}
 use Rattle.signal.specs.SignalRecord.{signalOctets, joined}
-use Rattle.signal.specs.Writing.{frontOf, known, Ran, Halts}
+use Rattle.signal.specs.Writing.{given, frontOf, known, Ran, Halts}
 use Rattle.signal.proofs.SignalRecord.{signal-length}
 use Rattle.signal.proofs.Runs.{known-length, three, spoken, split, room, behind-brings, at-end}
 use Rattle.signal.proofs.put_all.Statement.{statement}
 use Rattle.signal.proofs.put_all.Tie as tie
 
 -- the signals of a step are those of its words
-by-words : (o : Said) (n : ℕ) → n ≡ length (signalsOf o) → signalsOf o ≡ spoken o n (o .words / 16777216)
+by-words : (words : ℕ) (o : Given) (n : ℕ) → n ≡ length (said words) → signalsOf words o ≡ spoken o n (words / 16777216)
 unfolding signalsOf
-by-words o n h = ap (λ (k : ℕ). spoken o k (o .words / 16777216)) (sym (h ∙ counted o))
+by-words words o n h = ap (λ (k : ℕ). spoken o k (words / 16777216)) (sym (h ∙ counted words))
 
 -- one of some words, and the others
-one-more : (o : Said) (k : ℕ) (m : List ℕ) (n rest : ℕ) → 1 ≤ n → joined k m (spoken o n rest) ≡ signalOctets k m (meantBy o (wordAt (rest % 256))) ++ joined k m (spoken o (n - 1) (rest / 256))
+one-more : (o : Given) (k : ℕ) (m : List ℕ) (n rest : ℕ) → 1 ≤ n → joined k m (spoken o n rest) ≡ signalOctets k m (meantBy o (wordAt (rest % 256))) ++ joined k m (spoken o (n - 1) (rest / 256))
 unfolding joined
 one-more o k m n rest h = let e : n ≡ suc (n - 1) = omega arith in ap (λ (j : ℕ). joined k m (spoken o j rest)) e
 
-nothing : (o : Said) (k : ℕ) (m : List ℕ) (n rest : ℕ) → n ≡ 0 → joined k m (spoken o n rest) ≡ []
+nothing : (o : Given) (k : ℕ) (m : List ℕ) (n rest : ℕ) → n ≡ 0 → joined k m (spoken o n rest) ≡ []
 unfolding joined
 nothing o k m n rest h = ap (λ (j : ℕ). joined k m (spoken o j rest)) h
 
@@ -44,13 +43,13 @@ moving r n (inr h) = h
 -- AFTER THE FIRST RUN
 
 abbrev P : Type 0
-P = tie.After-struct-known2
+P = tie.After-struct-known
 
 abbrev S : P → tie.Start
-S k = k .before .before .before .before .before .before .before .before .before .before
+S k = k .before .before .before .before .before .before .before .before .before
 
-abbrev O : P → Said
-O k = S k .args .said
+abbrev O : P → Given
+O k = given (S k .args .l) (S k .args .e .now)
 
 abbrev E : P → List ℕ
 E k = S k .args .e .now
@@ -65,10 +64,10 @@ abbrev L : P → ℕ
 L k = linkAt (E k)
 
 abbrev N : P → ℕ
-N k = k .before .before .before .before .before .before .before .count .result
+N k = k .before .before .before .before .before .before .count .result
 
 abbrev W : P → ℕ
-W k = O k .words / 16777216
+W k = S k .args .words / 16777216
 
 abbrev R : P → Run
 R k = k .before .before .before .put-run .result
@@ -77,10 +76,10 @@ abbrev Out : P → List ℕ
 Out k = k .before .before .before .put-run .last .0
 
 octet-3 : (k : P) → at (E k) 3 ≤ 255
-octet-3 k = omega (arith, k .before .before .before .before .before .before .before .before .shared-slice-known .given 3)
+octet-3 k = omega (arith, k .before .before .before .before .before .before .before .shared-slice-known .given 3)
 
 ran : (k : P) → Ran (frontOf (E k)) (record { at = 0; rest = W k; left = N k }) (D k) (R k) (Out k)
-ran k = subst (λ (f : List ℕ). Ran f (record { at = 0; rest = W k; left = N k }) (D k) (R k) (Out k)) (k .before .before .before .before .before .before .front-of .ensures) (k .before .before .before .put-run .ensures .0)
+ran k = subst (λ (f : List ℕ). Ran f (record { at = 0; rest = W k; left = N k }) (D k) (R k) (Out k)) (k .before .before .before .before .before .front-of .ensures) (k .before .before .before .put-run .ensures .0)
 
 abbrev K : P → List ℕ
 K k = known (frontOf (E k)) (ran k .told) (W k)
@@ -88,17 +87,17 @@ K k = known (frontOf (E k)) (ran k .told) (W k)
 long : (k : P) → length (K k) ≡ 12 * ran k .told
 long k = known-length (frontOf (E k)) (ran k .told) (W k) refl (ran k .words)
 
-said : (k : P) → signalsOf (O k) ≡ spoken (O k) (N k) (W k)
-said k = by-words (O k) (N k) (k .before .before .before .before .before .before .before .count .ensures)
+in-words : (k : P) → signalsOf (S k .args .words) (O k) ≡ spoken (O k) (N k) (W k)
+in-words k = by-words (S k .args .words) (O k) (N k) (k .before .before .before .before .before .before .count .ensures)
 
 -- what is left to be told
 abbrev J : P → List ℕ
 J k = joined (L k) (M k) (spoken (O k) (R k .left) (R k .rest))
 
-parts : (k : P) → joined (L k) (M k) (signalsOf (O k)) ≡ K k ++ J k
+parts : (k : P) → joined (L k) (M k) (signalsOf (S k .args .words) (O k)) ≡ K k ++ J k
 parts k =
     let r = ran k in
-    ap (joined (L k) (M k)) (said k)
+    ap (joined (L k) (M k)) (in-words k)
     ∙ split (O k) (E k) (M k) (omega (arith, octet-3 k)) (N k) (r .told) (R k .left) (W k) (r .all) (r .words)
     ∙ ap (λ (n : ℕ). K k ++ joined (L k) (M k) (spoken (O k) (R k .left) n)) (sym (r .rest))
 
@@ -117,14 +116,14 @@ front-of-requires c κs = search needs
 
 put-run-requires : tie.Need-put-run-requires
 put-run-requires c κs =
-    let s = c .before .before .before .before .before .before in
+    let s = c .before .before .before .before .before in
     let a = s .args in
     let e = a .e .now in
-    let n = c .before .before .before .count .result in
-    let o = a .said in
-    let w : ℕ = o .words / 16777216 in
-    let h = ap (λ (l : List Signal). length (joined (linkAt e) (messageOf e) l)) (by-words o n (c .before .before .before .count .ensures)) in
-    (ap length (c .before .before .front-of .ensures), omega (arith, room o e (messageOf e) (omega (arith, c .before .before .before .before .shared-slice-known .given 3)) n w, h, s .pre .4))
+    let n = c .before .before .count .result in
+    let o = given (a .l) e in
+    let w : ℕ = a .words / 16777216 in
+    let h = ap (λ (l : List Signal). length (joined (linkAt e) (messageOf e) l)) (by-words (a .words) o n (c .before .before .count .ensures)) in
+    (ap length (c .before .front-of .ensures), omega (arith, room o e (messageOf e) (omega (arith, c .before .before .before .shared-slice-known .given 3)) n w, h, s .pre .4))
 
 same-length : tie.Need-same-length
 same-length c = search needs
@@ -133,7 +132,7 @@ returns : tie.Need-returns
 unfolding putAt
 returns c =
     let k = c .before in
-    let e : joined (L k) (M k) (signalsOf (O k)) ≡ K k = parts k ∙ ap (λ (l : List ℕ). K k ++ l) (nothing (O k) (L k) (M k) (R k .left) (R k .rest) (c .if1 .taken)) ∙ append-nil (K k) in
+    let e : joined (L k) (M k) (signalsOf (S k .args .words) (O k)) ≡ K k = parts k ∙ ap (λ (l : List ℕ). K k ++ l) (nothing (O k) (L k) (M k) (R k .left) (R k .rest) (c .if1 .taken)) ∙ append-nil (K k) in
     record {
       answer = omega (arith, ran k .at, long k, ap length e);
       written = ran k .written ∙ ap (λ (l : List ℕ). over l (D k)) (sym e);
@@ -174,7 +173,7 @@ at-most-one c =
     let t = ran k in
     let e : r .left ≡ suc (r .left - 1) = omega (arith, some c) in
     let h = behind-brings (O k) (N k) (t .told) (r .left) (W k) (t .all) in
-    let g = subst (λ (l : List Signal). brought l ≤ 1) (said k) (S k .pre .3) in
+    let g = subst (λ (l : List Signal). brought l ≤ 1) (in-words k) (S k .pre .3) in
     let f : brought (spoken (O k) (r .left) (r .rest)) ≤ 1 = subst (λ (n : ℕ). brought (spoken (O k) (r .left) n) ≤ 1) (sym (t .rest)) (omega (arith, h, g)) in
     subst (λ (n : ℕ). brought (spoken (O k) n (r .rest)) ≤ 1) e f
 
@@ -192,19 +191,19 @@ put-other-requires c κs =
     let q : Q = c .before .before in
     let k = q .before in
     let p = S k .pre in
-    (bringing q, k .before .before .before .before .before .before .front-of .ensures, (p .0, p .1, p .2), simp (length-take, length-drop) (omega (arith, further q, same k, signal-length (L k) (M k) (G q))))
+    (bringing q, k .before .before .before .before .before .front-of .ensures, (p .0, p .1, p .2), simp (length-take, length-drop) (omega (arith, further q, same k, signal-length (L k) (M k) (G q))))
 
-add-t16 : tie.Need-add-t16
-add-t16 c = let q : Q = c .before .before .before .before .before .before in omega (arith, c .before .before .before .put-other .ensures .answer, further q, same (q .before), S (q .before) .good)
+add-t17 : tie.Need-add-t17
+add-t17 c = let q : Q = c .before .before .before .before .before .before in omega (arith, c .before .before .before .put-other .ensures .answer, further q, same (q .before), S (q .before) .good)
 
-sub-t21 : tie.Need-sub-t21
-sub-t21 c = search needs
+sub-t22 : tie.Need-sub-t22
+sub-t22 c = search needs
 
 put-run-requires-2 : tie.Need-put-run-requires-2
 put-run-requires-2 c κs =
     let q : Q = c .before .before .before .before .before .before .before .before in
     let k = q .before in (
-      ap length (k .before .before .before .before .before .before .front-of .ensures),
+      ap length (k .before .before .before .before .before .front-of .ensures),
       omega (arith, c .before .before .before .before .before .put-other .ensures .answer, further q, same k, room (O k) (E k) (M k) (omega (arith, octet-3 k)) (R k .left - 1) (R k .rest / 256)),
     )
 
@@ -222,7 +221,7 @@ returns-2 c =
     let run : Run = record { at = r .at + m; rest = r .rest / 256; left = r .left - 1 } in
     let last = c .before .before .put-run2 .result in
     let t : Ran (frontOf (E k)) run d last (c .before .before .put-run2 .last .0) =
-    subst (λ (f : List ℕ). Ran f run d last (c .before .before .put-run2 .last .0)) (k .before .before .before .before .before .before .front-of .ensures) (c .before .before .put-run2 .ensures .0) in
+    subst (λ (f : List ℕ). Ran f run d last (c .before .before .put-run2 .last .0)) (k .before .before .before .before .before .front-of .ensures) (c .before .before .put-run2 .ensures .0) in
     let one : brought (spoken (O k) (suc (r .left - 1)) (r .rest)) ≤ 1 = at-most-one q in
     let z = at-end (O k) (frontOf (E k)) (r .rest) run last d (c .before .before .put-run2 .last .0) (bringing q) refl one t (c .before .before .put-run2 .ensures .1) in
     let x = known (frontOf (E k)) (t .told) (r .rest / 256) in
@@ -246,8 +245,8 @@ put-all-spec =
     part-put-other-start
     part-put-other-end
     put-other-requires
-    add-t16
-    sub-t21
+    add-t17
+    sub-t22
     put-run-requires-2
     same-length-2
     returns-2)

@@ -15,20 +15,19 @@ use Rattle.unit.specs.Proving.{table8}
 use Rattle.table6.specs.Stored.{wordAt}
 use Rattle.table6.proofs.Lists.{alike-from}
 use Rattle.link.specs.declared.Carries.{Carries}
-use Rattle.link.specs.declared.Said.{Said}
-use Rattle.link.specs.Stored.{meantBy}
+use Rattle.link.specs.Stored.{Given, meantBy}
 use Rattle.octet.specs.Octets.{at, putAt}
-use Rattle.event.specs.Frame.{messageOf}
+use Rattle.event.specs.Frame.{paramAt, numberAt, messageOf}
 use Rattle.event.proofs.Frame.{length-octets}
 use Rattle.signal.specs.SignalRecord.{bodyOf}
-use Rattle.signal.specs.Writing.{fromCode, carryingAt, PutCode}
+use Rattle.signal.specs.Writing.{given, fromCode, carryingAt, PutCode}
 use Rattle.signal.proofs.SignalRecord.{last-word, stored, with-body, with-end}
 use Rattle.signal.proofs.put_carrying.Statement.{statement}
 use Rattle.signal.proofs.put_carrying.Tie as tie
 
 -- WHAT EACH RANGE OF WORDS COMES TO
 
-module _ (o : Said) (m : List ℕ) (w : ℕ) where
+module _ (o : Given) (m : List ℕ) (w : ℕ) where
   of-message : (b : Bool) → 44 ≤ w → ltb w 46 ≡ b → take 6 (carryingAt w) ++ (length m / 256 ∷ length m % 256 ∷ m) ≡ fromCode m (meantBy o (wordAt w))
   of-message true h e = alike-from (λ w. take 6 (carryingAt w) ++ (length m / 256 ∷ length m % 256 ∷ m)) (λ w. fromCode m (meantBy o (wordAt w))) 44 2 [] refl w h (ltb-true w 46 e)
   of-message false h e = rw (last-word w (ltb-false w 46 e)) refl
@@ -39,11 +38,11 @@ module _ (o : Said) (m : List ℕ) (w : ℕ) where
   of-param : 38 ≤ w → w < 40 → set (carryingAt w) 1 (o .param) ≡ fromCode m (meantBy o (wordAt w))
   of-param h k = alike-from (λ w. set (carryingAt w) 1 (o .param)) (λ w. fromCode m (meantBy o (wordAt w))) 38 2 [] refl w h k
 
-unit-ins : (o : Said) (m : List ℕ) → carryingAt 43 ++ unitOf Status.INS ≡ fromCode m (meantBy o (wordAt 43))
+unit-ins : (o : Given) (m : List ℕ) → carryingAt 43 ++ unitOf Status.INS ≡ fromCode m (meantBy o (wordAt 43))
 unfolding unitOf
 unit-ins o m = refl
 
-unit-nm : (o : Said) (m : List ℕ) → carryingAt 42 ++ unitOf Status.NM ≡ fromCode m (meantBy o (wordAt 42))
+unit-nm : (o : Given) (m : List ℕ) → carryingAt 42 ++ unitOf Status.NM ≡ fromCode m (meantBy o (wordAt 42))
 unfolding unitOf
 unit-nm o m = refl
 
@@ -68,7 +67,7 @@ of-number-set w k a b c {d = d} {d₁ = d₁} z n h p g e =
     let q = stored (stored (stored p′ h 2 a (omega (arith, n))) h 3 b (omega (arith, n, x))) h 4 c (omega (arith, n, x, y)) in
     record { answer = g .0 ∙ q .answer ∙ ap (λ (x : List ℕ). 4 + length x) e; written = g .1 ∙ q .written ∙ ap (putAt d 4) e }
 
-carries-message : (o : Said) (w : ℕ) (b : Bool) → 44 ≤ w → ltb w 46 ≡ b → meantBy o (wordAt w) .carries ≡ Carries.Message
+carries-message : (o : Given) (w : ℕ) (b : Bool) → 44 ≤ w → ltb w 46 ≡ b → meantBy o (wordAt w) .carries ≡ Carries.Message
 carries-message o w true h e = alike-from (λ w. meantBy o (wordAt w) .carries) (λ w. Carries.Message) 44 2 Carries.Nothing refl w h (ltb-true w 46 e)
 carries-message o w false h e = rw (last-word w (ltb-false w 46 e)) refl
 
@@ -88,7 +87,7 @@ put-at-requires : tie.Need-put-at-requires
 put-at-requires c κs = search needs
 
 abbrev S : tie.After-slice-known2 → tie.Start
-S c = c .before .before .before .before .before .before .before .before .before .before
+S c = c .before .before .before .before .before .before .before .before .before
 
 written : (c : tie.After-slice-known2) → PutCode (carryingAt (S c .args .w)) (S c .args .out .now) 12 (c .before .before .put-at .last .0)
 written c =
@@ -112,7 +111,7 @@ with-message-requires : tie.Need-with-message-requires
 with-message-requires c κs =
     let s = S (c .before .before) in
     let w = s .args .w in
-    let h = rw (carries-message (s .args .said) w (ltb w 46) (c .before .if1 .taken) refl) at (s .pre .2) in
+    let h = rw (carries-message (given (s .args .l) (s .args .e .now)) w (ltb w 46) (c .before .if1 .taken) refl) at (s .pre .2) in
     (s .pre .1, omega (arith, h, s .pre .1 .0, length-drop 12 (s .args .e .now)))
 
 returns : tie.Need-returns
@@ -122,10 +121,10 @@ returns c =
     let e = a .e .now in
     let m = messageOf e in
     let h = S k .pre .1 in
-    let l = length-octets e (omega (arith, k .before .before .before .before .before .before .before .before .shared-slice-known .given 11)) (h .1) in
+    let l = length-octets e (omega (arith, k .before .before .before .before .before .before .before .shared-slice-known .given 11)) (h .1) in
     let p = with-end (written k) (twelve k) 6 (drop 10 e) (eight-long k) (omega arith) (omega (arith, length-drop 10 e, h .0)) in
     let t : drop 10 e ≡ length m / 256 ∷ length m % 256 ∷ m = tail e (h .0) ∙ (λ i. sym (l .0) i ∷ sym (l .1) i ∷ m) in
-    let q = ap (λ (x : List ℕ). take 6 (carryingAt (a .w)) ++ x) t ∙ of-message (a .said) m (a .w) (ltb (a .w) 46) (c .before .before .before .before .if1 .taken) refl in
+    let q = ap (λ (x : List ℕ). take 6 (carryingAt (a .w)) ++ x) t ∙ of-message (given (a .l) (a .e .now)) m (a .w) (ltb (a .w) 46) (c .before .before .before .before .if1 .taken) refl in
     let g = c .before .before .with-message .ensures in
     record {
       answer = omega (arith, g .0, p .answer, ap length q, length-drop 10 e, h .0);
@@ -137,7 +136,7 @@ with-unit-requires c κs =
     let s = S (c .before .before .before) in
     let q : s .args .w ≡ 43 = omega (arith, c .before .if2 .taken, c .before .before .if1 .left) in
     let a = s .args in
-    let h = subst (λ (w : ℕ). 12 + length (bodyOf (meantBy (a .said) (wordAt w) .carries) (messageOf (a .e .now))) ≤ length (a .out .now)) q (s .pre .2) in
+    let h = subst (λ (w : ℕ). 12 + length (bodyOf (meantBy (given (a .l) (a .e .now)) (wordAt w) .carries) (messageOf (a .e .now))) ≤ length (a .out .now)) q (s .pre .2) in
     omega (arith, h)
 
 same-length-2 : tie.Need-same-length-2
@@ -148,14 +147,14 @@ returns-2 c =
     let k : tie.After-slice-known2 = c .before .before .before .before .before .before in
     let a = S k .args in
     let q : a .w ≡ 43 = omega (arith, c .before .before .before .before .if2 .taken, c .before .before .before .before .before .if1 .left) in
-    rw q (of-unit Status.INS (a .w) 43 q (unit-ins (a .said) (messageOf (a .e .now))) refl (twelve k) (written k) (c .before .before .with-unit .ensures))
+    rw q (of-unit Status.INS (a .w) 43 q (unit-ins (given (a .l) (a .e .now)) (messageOf (a .e .now))) refl (twelve k) (written k) (c .before .before .with-unit .ensures))
 
 with-unit-requires-2 : tie.Need-with-unit-requires-2
 with-unit-requires-2 c κs =
     let s = S (c .before .before .before .before) in
     let q : s .args .w ≡ 42 = omega (arith, c .before .if3 .taken, c .before .before .if2 .left) in
     let a = s .args in
-    let h = subst (λ (w : ℕ). 12 + length (bodyOf (meantBy (a .said) (wordAt w) .carries) (messageOf (a .e .now))) ≤ length (a .out .now)) q (s .pre .2) in
+    let h = subst (λ (w : ℕ). 12 + length (bodyOf (meantBy (given (a .l) (a .e .now)) (wordAt w) .carries) (messageOf (a .e .now))) ≤ length (a .out .now)) q (s .pre .2) in
     omega (arith, h)
 
 same-length-3 : tie.Need-same-length-3
@@ -166,7 +165,7 @@ returns-3 c =
     let k : tie.After-slice-known2 = c .before .before .before .before .before .before .before in
     let a = S k .args in
     let q : a .w ≡ 42 = omega (arith, c .before .before .before .before .if3 .taken, c .before .before .before .before .before .if2 .left) in
-    rw q (of-unit Status.NM (a .w) 42 q (unit-nm (a .said) (messageOf (a .e .now))) refl (twelve k) (written k) (c .before .before .with-unit2 .ensures))
+    rw q (of-unit Status.NM (a .w) 42 q (unit-nm (given (a .l) (a .e .now)) (messageOf (a .e .now))) refl (twelve k) (written k) (c .before .before .with-unit2 .ensures))
 
 offered-requires : tie.Need-offered-requires
 offered-requires c κs = search needs
@@ -182,7 +181,10 @@ returns-4 c =
     let k : tie.After-slice-known2 = c .before .before .before .before .before .before .before .before .before in
     let a = S k .args in
     of-param-set (carryingAt (a .w)) (c .before .before .before .offered .result) (eight-long k) (twelve k) (written k) (c .before .before .with-param .ensures)
-    (ap (set (carryingAt (a .w)) 1) (c .before .before .before .offered .ensures) ∙ of-offer (a .said) (messageOf (a .e .now)) (a .w) (c .before .before .before .before .before .if4 .taken) (c .before .before .before .before .before .before .if3 .left))
+    (ap (set (carryingAt (a .w)) 1) (c .before .before .before .offered .ensures) ∙ of-offer (given (a .l) (a .e .now)) (messageOf (a .e .now)) (a .w) (c .before .before .before .before .before .if4 .taken) (c .before .before .before .before .before .before .if3 .left))
+
+shared-slice-read-with-param : tie.Need-shared-slice-read-with-param
+shared-slice-read-with-param c = search needs
 
 with-param-requires-2 : tie.Need-with-param-requires-2
 with-param-requires-2 c κs = search needs
@@ -192,10 +194,19 @@ same-length-5 c = search needs
 
 returns-5 : tie.Need-returns-5
 returns-5 c =
-    let k : tie.After-slice-known2 = c .before .before .before .before .before .before .before .before .before in
+    let k : tie.After-slice-known2 = c .before .before .before .before .before .before .before .before .before .before in
     let a = S k .args in
-    of-param-set (carryingAt (a .w)) (a .said .param) (eight-long k) (twelve k) (written k) (c .before .before .with-param2 .ensures)
-    (of-param (a .said) (messageOf (a .e .now)) (a .w) (c .before .before .before .before .if5 .taken) (c .before .before .before .before .before .if4 .left))
+    of-param-set (carryingAt (a .w)) (paramAt (a .e .now)) (eight-long k) (twelve k) (written k) (c .before .before .with-param2 .ensures)
+    (of-param (given (a .l) (a .e .now)) (messageOf (a .e .now)) (a .w) (c .before .before .before .before .before .if5 .taken) (c .before .before .before .before .before .before .if4 .left))
+
+shared-slice-read-t34 : tie.Need-shared-slice-read-t34
+shared-slice-read-t34 c = search needs
+
+shared-slice-read-t36 : tie.Need-shared-slice-read-t36
+shared-slice-read-t36 c = search needs
+
+shared-slice-read-t38 : tie.Need-shared-slice-read-t38
+shared-slice-read-t38 c = search needs
 
 with-number-requires : tie.Need-with-number-requires
 with-number-requires c κs = search needs
@@ -205,10 +216,10 @@ same-length-6 c = search needs
 
 returns-6 : tie.Need-returns-6
 returns-6 c =
-    let k : tie.After-slice-known2 = c .before .before .before .before .before .before .before .before .before .before in
+    let k : tie.After-slice-known2 = c .before .before .before .before .before .before .before .before .before .before .before .before .before in
     let a = S k .args in
-    let n = a .said .num in
-    let q : a .w ≡ 37 = omega (arith, c .before .before .before .before .if6 .taken, c .before .before .before .before .before .if5 .left) in
+    let n = numberAt (a .e .now) in
+    let q : a .w ≡ 37 = omega (arith, c .before .before .before .before .before .before .before .if6 .taken, c .before .before .before .before .before .before .before .before .if5 .left) in
     rw q (of-number-set (a .w) 37 (n .a) (n .b) (n .c) q refl (twelve k) (written k) (c .before .before .with-number .ensures) refl)
 
 with-number-requires-2 : tie.Need-with-number-requires-2
@@ -221,7 +232,7 @@ returns-7 : tie.Need-returns-7
 returns-7 c =
     let k : tie.After-slice-known2 = c .before .before .before .before .before .before .before .before .before .before in
     let a = S k .args in
-    let n = a .said .bsnt in
+    let n = a .l .bsnt .num in
     let q : a .w ≡ 36 = omega (arith, S k .pre .0, c .before .before .before .before .if6 .left) in
     rw q (of-number-set (a .w) 36 (n .a) (n .b) (n .c) q refl (twelve k) (written k) (c .before .before .with-number2 .ensures) refl)
 
@@ -245,9 +256,13 @@ put-carrying-spec =
     with-param-requires
     same-length-4
     returns-4
+    shared-slice-read-with-param
     with-param-requires-2
     same-length-5
     returns-5
+    shared-slice-read-t34
+    shared-slice-read-t36
+    shared-slice-read-t38
     with-number-requires
     same-length-6
     returns-6

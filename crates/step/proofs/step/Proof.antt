@@ -9,11 +9,13 @@ use borrow.Author.Needs.{needs}
 use Rattle.link.specs.declared.Link.{Link}
 use Rattle.link.specs.declared.Signal.{Signal}
 use Rattle.link.specs.Stored.{signalsOf}
+use Rattle.link.proofs.Spoken.{as-many}
 use Rattle.unit.specs.Checks.{refused, first}
-use Rattle.octet.specs.Octets.{over, putAt}
+use Rattle.octet.specs.Octets.{putAt}
 use Rattle.record.specs.LinkRecord.{recordOctets, octetsOf}
 use Rattle.event.specs.Frame.{EV, linkAt, messageOf}
 use Rattle.signal.specs.SignalRecord.{joined}
+use Rattle.signal.specs.Writing.{given}
 use Rattle.event.proofs.Frame.{sound, message-length}
 use Rattle.step.specs.declared.checks.Plan.{Plan}
 use Rattle.step.specs.Checks.{number, place}
@@ -46,7 +48,7 @@ abbrev N : tie.After-link → Link
 N c = c .link .given .0 .1 .0
 
 abbrev S : tie.After-link → List Signal
-S c = signalsOf (c .link .given .0 .1 .1 .0)
+S c = signalsOf (c .link .given .0 .1 .1 .0) (given (N c) (E c))
 
 go : (c : tie.After-link) → Planned (checks (T c) (E c) (length (O c))) (T c) (E c) (Plan.Go (K c) (N c) (c .link .given .0 .1 .1 .0))
 go c =
@@ -164,8 +166,9 @@ returns-2 c =
     let p = c .before .before .before .put-all .ensures in
     let et : c .before .before .before .before .before .before .before .put-at .last .0 ≡ putAt (T l) (recordOctets * linkAt (E l)) (octetsOf (N l)) =
     c .before .before .before .before .before .before .before .put-at .ensures ∙ (λ i. putAt (T l) (recordOctets * go l .1 i) (c .before .before .before .before .before .before .before .before .before .before .pack .ensures i)) in
-    (λ i. answering (acceptance-back (c .before .before .before .put-all .result) (c .count .result) (few c) (c .count .ok) i) (et i) (p .written i))
-    ∙ (λ i. answering (answered 0 (p .answer i) (c .count .ensures i) 0) (putAt (T l) (recordOctets * linkAt (E l)) (octetsOf (N l))) (over (joined (linkAt (E l)) (messageOf (E l)) (S l)) (O l)))
+    let n : c .count .result ≡ length (S l) = c .count .ensures ∙ sym (as-many (l .link .given .0 .1 .1 .0) (given (N l) (E l))) in
+    let a = acceptance-back (c .before .before .before .put-all .result) (c .count .result) (few c) (c .count .ok) ∙ (λ i. answered 0 (p .answer i) (n i) 0) in
+    (λ i. answering (a i) (et i) (p .written i))
     ∙ sym (step-accepted (T l) (E l) (O l) (go l .0) (go l .2))
 
 pub step-spec : {M : Type 1} → statement M

@@ -10,14 +10,17 @@ use borrow.Author.Needs.{needs}
 use Rattle.link.specs.Step as machine
 use Rattle.link.specs.declared.Link.{Link}
 use Rattle.link.specs.declared.Event.{Event}
-use Rattle.link.specs.Stored.{signalsOf}
+use Rattle.link.specs.Stored.{givenBy, signalsOf}
 use Rattle.link.specs.Lent.{Turned}
 use Rattle.link.proofs.Lent.{was-illegal, was-legal}
 use Rattle.record.specs.declared.Slot.{Slot}
 use Rattle.record.specs.LinkRecord.{recordOctets, wellFormed, slotOf, found}
+use Rattle.event.specs.declared.Reading.{Reading}
 use Rattle.event.specs.Frame.{linkAt, codeAt}
 use Rattle.record.proofs.LinkRecord.{SlotTold, slot-tells}
 use Rattle.event.specs.EventRecord.{eventOf}
+use Rattle.event.proofs.EventRecord.{reading-tells, fits-seen}
+use Rattle.signal.specs.Writing.{given}
 use Rattle.step.specs.Step.{records, recordAt, idle}
 use Rattle.step.proofs.Places.{record-length}
 use Rattle.step.proofs.checks.link_plan.Statement.{statement}
@@ -63,18 +66,28 @@ running c = sym (c .before .idle .ensures) ∙ c .if2 .left
 abbrev L : tie.After-step-plain → Link
 L c = c .before .before .before .before .before .before .l .given .0 .0
 
-abbrev Out : tie.After-step-plain → machine.Outcome
-Out c = machine.stepOf (L c) (eventOf (c .before .before .before .before .before .before .before .before .before .before .before .before .before .args .e .now))
+abbrev Ev : tie.After-step-plain → List ℕ
+Ev c = c .before .before .before .before .before .before .before .before .before .before .before .before .before .args .e .now
 
-turned : (c : tie.After-step-plain) → Turned (L c) (Out c) (c .step-plain .result .link) (c .step-plain .result .reply)
+abbrev Out : tie.After-step-plain → machine.Outcome
+Out c = machine.stepOf (L c) (eventOf (Ev c))
+
+turned : (c : tie.After-step-plain) → Turned (L c) (eventOf (Ev c)) (Out c) (c .step-plain .result .link) (c .step-plain .result .reply)
 turned c =
-    subst (λ (x : Event). Turned (L c) (machine.stepOf (L c) x) (c .step-plain .result .link) (c .step-plain .result .reply)) (c .before .event .ensures) (c .step-plain .ensures)
+    subst (λ (x : Event). Turned (L c) x (machine.stepOf (L c) x) (c .step-plain .result .link) (c .step-plain .result .reply)) (c .before .event .ensures) (c .step-plain .ensures)
 
 illegal : (c : tie.After-enum-told2) → Out (c .before .before .before) ≡ machine.Illegal
-illegal c = was-illegal (Out (c .before .before .before)) (c .enum-told2 .given .1) (turned (c .before .before .before))
+illegal c = let d : tie.After-step-plain = c .before .before .before in was-illegal (L d) (eventOf (Ev d)) (d .step-plain .result .link) (Out d) (c .enum-told2 .given .1) (turned d)
 
-legal : (c : tie.After-reply) → Out (c .before .before .before) ≡ machine.Legal (c .before .before .before .step-plain .result .link) (signalsOf (c .reply .given .0 .0))
-legal c = was-legal (Out (c .before .before .before)) (c .reply .given .1) (turned (c .before .before .before))
+legal : (c : tie.After-reply) →
+    let d : tie.After-step-plain = c .before .before .before in
+    let next = d .step-plain .result .link in
+    Out d ≡ machine.Legal next (signalsOf (c .reply .given .0 .0) (given next (Ev d)))
+legal c =
+    let d : tie.After-step-plain = c .before .before .before in
+    let next = d .step-plain .result .link in
+    let s = fits-seen (Ev d) (reading-tells (Ev d) Reading.Fits (sym (d .before .before .before .before .before .before .before .before .before .before .before .before .before .pre .1))) (L d .c1) in
+    was-legal (L d) (eventOf (Ev d)) next (Out d) (c .reply .given .1) (turned d) ∙ (λ i. machine.Legal next (signalsOf (c .reply .given .0 .0) (givenBy (s i .param) (s i .num) next)))
 
 link-requires : tie.Need-link-requires
 link-requires c κs = search needs
