@@ -21,7 +21,7 @@ use Rattle.keeper.specs.Searched.{boundOf, FirstBelow, NoneBelow}
 use Rattle.keeper.specs.Rounds.{Of, Round, Sooner, All, InOrder, times, EachOnce, RoundEnds}
 use Rattle.keeper.proofs.Places.{timerAt, place-back, same-rank, same-expiry, expiry-some}
 use Rattle.keeper.proofs.Calls.{due-past, due-named, names-of}
-use Rattle.keeper.proofs.Search.{below-bound}
+use Rattle.keeper.proofs.Search.{search-all, below-bound}
 use Rattle.keeper.proofs.Due.{Same, same-or-not, behind, found-due, names-none}
 use Rattle.keeper.proofs.Laws.{changed, told-past, nothing-due-exactly}
 
@@ -141,51 +141,7 @@ each-once p time d (x ∷ l) r =
       order = (all-map l (first-of d after n time k t (w .1) (w .0)) (i .only), order-same d after l (all-map l (λ y u. same-deadline d after n time k t (w .1) (y .link) (y .timer) (u .0) (u .1)) (i .only)) (i .order));
     }
 
--- IT ENDS. What is sought is found, among the first m numbers
-found-next : (d : List ℕ) (bound m place : ℕ) → FirstBelow d m bound place → getD d place 0 ≤ getD d m 0 → FirstBelow d (suc m) bound place
-found-next d bound m place f h =
-    record {
-      inside = omega (arith, f .inside);
-      below = f .below;
-      none-less = λ j g. by j g (ltb j m) refl;
-      none-before = f .none-before;
-    } where
-      by : (j : ℕ) → j < suc m → (b : Bool) → ltb j m ≡ b → getD d place 0 ≤ getD d j 0
-      by j g true t = f .none-less j (ltb-true j m t)
-      by j g false t = let e : m ≡ j = omega (arith, ltb-false j m t) in subst (λ (i : ℕ). getD d place 0 ≤ getD d i 0) e h
-
-found-here : (d : List ℕ) (bound m : ℕ) → getD d m 0 < bound → ((j : ℕ) → j < m → getD d m 0 < getD d j 0) → FirstBelow d (suc m) bound m
-found-here d bound m h f = record { inside = omega arith; below = h; none-less = λ j g. by j g (ltb j m) refl; none-before = f } where
-  by : (j : ℕ) → j < suc m → (b : Bool) → ltb j m ≡ b → getD d m 0 ≤ getD d j 0
-  by j g true t = omega (arith, f j (ltb-true j m t))
-  by j g false t = let e : m ≡ j = omega (arith, ltb-false j m t) in subst (λ (i : ℕ). getD d m 0 ≤ getD d i 0) e (omega arith)
-
-none-next : (d : List ℕ) (bound m : ℕ) → NoneBelow d m bound → bound ≤ getD d m 0 → NoneBelow d (suc m) bound
-none-next d bound m f h j g = by (ltb j m) refl where
-  by : (b : Bool) → ltb j m ≡ b → bound ≤ getD d j 0
-  by true t = f j (ltb-true j m t)
-  by false t = let e : m ≡ j = omega (arith, ltb-false j m t) in subst (λ (i : ℕ). bound ≤ getD d i 0) e h
-
-abbrev Searched : List ℕ → ℕ → ℕ → Type 0
-Searched d bound m = NoneBelow d m bound ⊎ ((place : ℕ) × FirstBelow d m bound place)
-
-one-further : (d : List ℕ) (bound m : ℕ) → Searched d bound m → Searched d bound (suc m)
-one-further d bound m (inl f) = by (ltb (getD d m 0) bound) refl where
-  by : (b : Bool) → ltb (getD d m 0) bound ≡ b → Searched d bound (suc m)
-  by true t = let h = ltb-true (getD d m 0) bound t in inr (m, found-here d bound m h (λ j g. omega (arith, f j g)))
-  by false t = inl (none-next d bound m f (ltb-false (getD d m 0) bound t))
-one-further d bound m (inr w) = by (ltb (getD d m 0) (getD d (w .0) 0)) refl where
-  by : (b : Bool) → ltb (getD d m 0) (getD d (w .0) 0) ≡ b → Searched d bound (suc m)
-  by true t =
-      let h = ltb-true (getD d m 0) (getD d (w .0) 0) t in
-      inr (m, found-here d bound m (omega (arith, w .1 .below)) (λ j g. omega (arith, w .1 .none-less j g)))
-  by false t = inr (w .0, found-next d bound m (w .0) (w .1) (ltb-false (getD d m 0) (getD d (w .0) 0) t))
-
-search-all : (d : List ℕ) (bound m : ℕ) → Searched d bound m
-search-all d bound zero = inl (λ j g. absurd (omega arith))
-search-all d bound (suc m) = one-further d bound m (search-all d bound m)
-
--- how many of the first m numbers run; each that is named makes them one less
+-- IT ENDS: how many of the first m numbers run; each that is named makes them one less
 abbrev oneIf : Bool → ℕ
 oneIf b = cond b 1 0
 
@@ -265,12 +221,12 @@ less-next p time d place h f =
 
 ends : (fuel : ℕ) (p : List ℕ) (time : ℕ) (d : List ℕ) → first (dueChecks d p time) ≡ passed → running d (3 * length p) ≤ fuel → (names : List Of) × Round p time d names
 ends zero p time d h b =
-    ⊎-elim (λ f. finish p time d h f) (λ w. absurd (omega (arith, less-next p time d (w .0) h (w .1)))) (search-all d (boundOf time) (3 * length p))
+    ⊎-elim (λ f. finish p time d h f) (λ w. absurd (omega (arith, less-next p time d (w .0) h (w .1)))) (search-all d (boundOf time) (length p))
 ends (suc fuel) p time d h b =
     ⊎-elim
     (λ f. finish p time d h f)
     (λ w. go-on p time d (w .0) h (w .1) (ends fuel p time (next d (length p) time (w .0)) (passes-next p time d (w .0) h (w .1)) (omega (arith, less-next p time d (w .0) h (w .1)))))
-    (search-all d (boundOf time) (3 * length p))
+    (search-all d (boundOf time) (length p))
 
 pub round-ends : RoundEnds
 round-ends p time d h = ends (running d (3 * length p)) p time d h (omega arith)

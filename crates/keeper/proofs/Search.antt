@@ -1,5 +1,5 @@
 -- The search for the first of the least numbers below a bound, three at a time. Assumes nothing.
-use Prim.Native.Nat.{ℕ, _+_, _-_, _<_, _≤_}
+use Prim.Native.Nat.{ℕ, zero, suc, _+_, _*_, _<_, _≤_}
 use native.Mathlib.Omega.{arith}
 use mathlib.Core.Path.{_≡_, refl, sym, ap, subst, _∙_}
 use mathlib.Core.Bool.{Bool, true, false, _||_}
@@ -105,6 +105,49 @@ none-below least a b c h =
 pub sought : (d : List ℕ) (end bound i found least : ℕ) → i ≡ end → SoFar d end bound i found least → Sought d end bound found
 sought d end bound i found least e (inl s) = inl (s .0, subst (λ (m : ℕ). NoneBelow d m bound) e (s .2))
 sought d end bound i found least e (inr s) = inr (subst (λ (m : ℕ). FirstBelow d m bound found) e (s .0))
+
+-- SOMETHING IS FOUND, OR NOTHING IS BELOW THE BOUND, in the numbers of any n links: by the loop's own turns
+least-among : (a b c : ℕ) → (place : ℕ) × ((x : ℕ) × LeastOf a b c place x)
+least-among a b c = by (ltb c a) (ltb c b) (ltb b a) refl refl refl where
+  by : (u v w : Bool) → ltb c a ≡ u → ltb c b ≡ v → ltb b a ≡ w → (place : ℕ) × ((x : ℕ) × LeastOf a b c place x)
+  by true true w p q r =
+      let h = ltb-true c a p in
+      let k = ltb-true c b q in
+      (2, (c, record { none-less = (omega arith, omega arith, omega arith); there = inr (inr (refl, refl, h, k)) }))
+  by true false true p q r =
+      let h = ltb-false c b q in
+      let k = ltb-true b a r in
+      (1, (b, record { none-less = (omega arith, omega arith, omega arith); there = inr (inl (refl, refl, k)) }))
+  by true false false p q r = absurd (omega (arith, ltb-true c a p, ltb-false c b q, ltb-false b a r))
+  by false v true p q r =
+      let h = ltb-false c a p in
+      let k = ltb-true b a r in
+      (1, (b, record { none-less = (omega arith, omega arith, omega arith); there = inr (inl (refl, refl, k)) }))
+  by false v false p q r =
+      let h = ltb-false c a p in
+      let k = ltb-false b a r in
+      (0, (a, record { none-less = (omega arith, omega arith, omega arith); there = inl (refl, refl) }))
+
+abbrev Searched : List ℕ → ℕ → ℕ → ℕ → Type 0
+Searched d end bound i = (found : ℕ) × ((least : ℕ) × SoFar d end bound i found least)
+
+one-link : (d : List ℕ) (end bound i : ℕ) → Searched d end bound i → Searched d end bound (i + 3)
+one-link d end bound i r = by (ltb (getD d i 0) (r .1 .0) || ltb (getD d (i + 1) 0) (r .1 .0) || ltb (getD d (i + 2) 0) (r .1 .0)) refl where
+  by : (b : Bool) → ltb (getD d i 0) (r .1 .0) || ltb (getD d (i + 1) 0) (r .1 .0) || ltb (getD d (i + 2) 0) (r .1 .0) ≡ b → Searched d end bound (i + 3)
+  by true e =
+      let m = least-among (getD d i 0) (getD d (i + 1) 0) (getD d (i + 2) 0) in
+      let h = least-below (r .1 .0) (getD d i 0) (getD d (i + 1) 0) (getD d (i + 2) 0) (m .1 .0) e (m .1 .1 .none-less) in
+      (i + m .0, (m .1 .0, taken d end bound i (r .0) (r .1 .0) (m .0) (m .1 .0) (r .1 .1) (m .1 .1) h))
+  by false e =
+      let n = none-below (r .1 .0) (getD d i 0) (getD d (i + 1) 0) (getD d (i + 2) 0) e in
+      (r .0, (r .1 .0, passed-by d end bound i (r .0) (r .1 .0) (r .1 .1) (n .0) (n .1) (n .2)))
+
+all-links : (d : List ℕ) (end bound n : ℕ) → Searched d end bound (3 * n)
+all-links d end bound zero = (end, (bound, inl (refl, refl, λ j g. absurd (omega arith))))
+all-links d end bound (suc n) = let e : 3 * n + 3 ≡ 3 * suc n = omega arith in subst (Searched d end bound) e (one-link d end bound (3 * n) (all-links d end bound n))
+
+pub search-all : (d : List ℕ) (bound n : ℕ) → NoneBelow d (3 * n) bound ⊎ ((place : ℕ) × FirstBelow d (3 * n) bound place)
+search-all d bound n = let r = all-links d (3 * n) bound n in ⊎-elim (λ s. inl (s .2)) (λ s. inr (r .0, s .0)) (r .1 .1)
 
 -- THE BOUND: below it is what is due
 pub bound-early : (time : ℕ) → time < idle → time + 1 ≡ boundOf time
