@@ -254,8 +254,9 @@ static size_t table_octets;
 static unsigned last_link; /* links are a power of two, so that this is a mask too */
 
 /*
- * What is written begins a page. Where a linker lays it is chance, and a message that is copied
- * over the end of a page takes any machine twice as long.
+ * What a single step writes begins a page. Where a linker lays it is chance, and a short message
+ * that is copied over the end of a page takes either machine twice as long; one of 4,096 octets
+ * always goes over it.
  */
 static uint8_t out[SSCF_OUTPUT_OCTETS] __attribute__((aligned(4096)));
 

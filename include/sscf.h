@@ -25,8 +25,8 @@
  * The library is for x86-64 Linux. It allocates nothing, keeps nothing between calls and calls
  * nothing back; every call returns, whatever octets it is given. All it knows of the links stands
  * in the table, which is the host's: it may be copied, stored and carried to another process, where
- * one copy alone goes on, the latest, whole, and with it the list of its deadlines, if these calls
- * keep them. What the calls promise, beside each of them below, is proved of the code, for every
+ * one copy alone goes on, the latest, whole, and with it the list of its deadlines, if the calls of
+ * DEADLINES keep them. What the calls promise, beside each of them below, is proved of the code, for every
  * table, every event, every message and every list.
  *
  * Of the C library it needs memmove, and for DEADLINES memset; a later version may also need
@@ -816,9 +816,10 @@ struct sscf_changeover_answer sscf_changeover_read(const uint8_t *octets, size_t
  * What is left to the host:
  *
  * - the clock, and waking up. The least of the first 3n numbers is the time at which to ask next,
- *   SSCF_NOT_RUNNING if no timer runs: sscf_next_deadline of sscf_host.h finds it. A timer that is
- *   set runs from the time given with its order, not from when it should have been named. So
- *   whatever the host wakes up late is added to each T3, and all of proving must still fit into T2.
+ *   SSCF_NOT_RUNNING if no timer runs: sscf_next_deadline of sscf_host.h finds it, anew after every
+ *   order. A timer that is set runs from the time given with its order, not from when it should
+ *   have been named. So whatever the host wakes up late is added to each T3, and all of proving
+ *   must still fit into T2.
  * - to follow every timer order of an accepted step or burst, resets too, in the order written. One
  *   time is read for a turn, and every order and question of the turn is given at it: behind an
  *   order at a later time the next question at the first one is refused.
@@ -841,9 +842,10 @@ struct sscf_changeover_answer sscf_changeover_read(const uint8_t *octets, size_t
  *
  * A host of four links, with sscf_host.h. table, of 64 octets, and out are its own, and so are
  * time_now, its clock in milliseconds, hand_on_signals, which leaves out the timer orders, fail,
- * and wait_until, which comes back once a time has come, or sooner: meanwhile it steps what SSCOP,
- * the users and management have for the links, with follow behind each step or burst, by the octets
- * that this answered. With SSCF_NOT_RUNNING it waits for these alone.
+ * and wait_until. This waits for a time, or with SSCF_NOT_RUNNING without end, and for what SSCOP,
+ * the users and management have for the links: it steps that, with follow behind each step or
+ * burst, by the octets that this answered, and comes back at once, since an order may have set an
+ * earlier deadline.
  *
  *     static uint64_t deadlines[SSCF_DEADLINES(4)], periods[4] = {13, 13, 13, 13};
  *

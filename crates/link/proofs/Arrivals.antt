@@ -219,7 +219,7 @@ as-one : (l : Link) (v : View) (n : ℕ) (up : Bool) → Behind (arrival (v .0))
 unfolding signalsOf
 as-one l v n up j = ap (λ (k : Link). Legal (with-state (over (stateOp n) (l .state)) k) (signalsOf n (givenBy (v .1) (numberIn v) k))) (sym j)
 
--- what was met of an event as the code looks at it
+-- what was met of an event, with its signals by the link that is left
 pub acted : (l : Link) (e : Event) (n : ℕ) (up : Bool) →
     let v = viewOf e (l .c1) in
     let k = appliedOf n up (v .1) (arrivedOf v l) in
