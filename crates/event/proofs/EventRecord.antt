@@ -9,7 +9,7 @@ use lib.ListN.{length}
 use borrow.Author.Tests.{leb-false, eqb-true, ne-eqb, not-false, not-true}
 use Rattle.table6.specs.RefusalCodes.{REFUSED-CODE, REFUSED-FRAME}
 use Rattle.unit.specs.declared.Arrived.{Arrived}
-use Rattle.unit.specs.Unit.{arrived}
+use Rattle.unit.specs.Unit.{arrived, noneOrStatus}
 use Rattle.unit.specs.Checks.{Verdict, passed, refused, first}
 use Rattle.unit.proofs.Checks.{clear}
 use Rattle.table6.specs.EventCodes.{MESSAGE-FOR-TRANSMISSION, EMERGENCY, EMERGENCY-CEASES, STOP, START, RETRIEVE-BSNT, RETRIEVAL-REQUEST-AND-FSNC, FLUSH-BUFFERS, CONTINUE}
@@ -29,7 +29,7 @@ use Rattle.event.specs.declared.Look.{Look}
 use Rattle.octet.specs.Octets.{at}
 use Rattle.octet.proofs.Branches.{neither}
 use Rattle.event.specs.Frame.{EV, lengthAt, linkAt, numberAt, messageOf, codeAt, paramAt, written}
-use Rattle.event.specs.Fields.{noneOrStatus, isZero, isSource, fields, notCarried, outOfRange, fieldChecks}
+use Rattle.event.specs.Fields.{isZero, isSource, fields, notCarried, outOfRange, fieldChecks}
 use Rattle.event.specs.EventRecord.{framed, events, Coded, among, Each, codedAt, codedIn, said, eventOf, unknown, fieldsIn, Refused, _at-place_}
 use Rattle.event.specs.EventRecord.{reading, fitting, saying, fieldsOf, readingOf, Holds, Carried, carrying, carried, Rewritten, Reread}
 use Rattle.event.specs.Look.{Seen}

@@ -10,7 +10,8 @@ use Rattle.table6.specs.EventCodes.{MESSAGE-FOR-TRANSMISSION, RETRIEVAL-REQUEST
 use Rattle.table6.specs.EventCodes.{DATA-indication, UNITDATA-indication, RETRIEVE-indication, CONGESTION}
 use Rattle.link.specs.declared.Num.{Num}
 use Rattle.octet.proofs.Branches.{neither}
-use Rattle.event.specs.Fields.{noneOrStatus, isZero, isSource, parameterField, numberField, lengthField, fields, notCarried, outOfRange, fieldChecks}
+use Rattle.unit.specs.Unit.{noneOrStatus}
+use Rattle.event.specs.Fields.{isZero, isSource, parameterField, numberField, lengthField, fields, notCarried, outOfRange, fieldChecks}
 use Rattle.event.specs.Refusal4.{misfit, SameMisfits}
 
 -- THE CODES THAT CARRY EACH, as the code asks for them

@@ -3,9 +3,8 @@ use Prim.Native.Nat.{ℕ}
 use mathlib.Core.Bool.{Bool, true, false, cond, not, _&&_, _||_}
 use mathlib.Core.List.{List, [], _∷_, _++_, map}
 use lib.Dec.{eqb, leb}
-use Rattle.unit.specs.declared.Field.{Field}
 use Rattle.unit.specs.Checks.{Check, _if_}
-use Rattle.unit.specs.Unit.{decoded}
+use Rattle.unit.specs.Unit.{noneOrStatus}
 use Rattle.table6.specs.EventCodes.{MESSAGE-FOR-TRANSMISSION, RETRIEVAL-REQUEST-AND-FSNC, ESTABLISH-indication, ESTABLISH-confirm, RELEASE-indication}
 use Rattle.table6.specs.EventCodes.{DATA-indication, UNITDATA-indication, RETRIEVE-indication, CONGESTION}
 use Rattle.table6.specs.RefusalCodes.{REFUSED-NOT-CARRIED, REFUSED-RANGE, REFUSED-SHORT}
@@ -46,16 +45,6 @@ pub record EventField : Type 0 where
 
 abbrev pub anything : Bool
 anything = true
-
-abbrev pub isNamed : Field → Bool
-isNamed (Field.Named s) = true
-isNamed Field.Unnamed = false
-
-abbrev pub isStatus : ℕ → Bool
-isStatus p = isNamed (decoded p)
-
-abbrev pub noneOrStatus : ℕ → Bool
-noneOrStatus p = eqb p 0 || isStatus p
 
 abbrev pub isZero : Num → Bool
 isZero n = eqb (n .a) 0 && eqb (n .b) 0 && eqb (n .c) 0

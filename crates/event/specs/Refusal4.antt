@@ -8,7 +8,8 @@ use Rattle.unit.specs.Checks.{passed, first}
 use Rattle.table6.specs.EventCodes.{MESSAGE-FOR-TRANSMISSION, RETRIEVAL-REQUEST-AND-FSNC, ESTABLISH-indication, ESTABLISH-confirm, RELEASE-indication}
 use Rattle.table6.specs.EventCodes.{DATA-indication, UNITDATA-indication, RETRIEVE-indication, CONGESTION}
 use Rattle.link.specs.declared.Num.{Num}
-use Rattle.event.specs.Fields.{isStatus, isZero, fields, fieldChecks}
+use Rattle.unit.specs.Unit.{isStatus}
+use Rattle.event.specs.Fields.{isZero, fields, fieldChecks}
 
 abbrev pub hasMessage : ℕ → Bool
 hasMessage c = eqb c MESSAGE-FOR-TRANSMISSION || eqb c DATA-indication || eqb c UNITDATA-indication || eqb c RETRIEVE-indication

@@ -5,10 +5,10 @@ use link::Num;
 use octet::marked;
 use octet::wide;
 use table6::events;
-use unit::Field;
 ghost use mathlib.Core.Path.{_≡_};
 ghost use mathlib.Core.Bool.{cond, not, _||_};
 ghost use Rattle.unit.specs.Checks.{first};
+ghost use Rattle.unit.specs.Unit.{noneOrStatus};
 ghost use Rattle.table6.specs.EventCodes.{ESTABLISH-indication, ESTABLISH-confirm, RELEASE-indication};
 ghost use Prim.Native.Nat.{_+_, _≤_};
 ghost use lib.Dec.{eqb, leb};
@@ -16,7 +16,7 @@ ghost use lib.ListN.{length};
 ghost use Rattle.event.specs.declared.Look.{Look};
 ghost use Rattle.event.specs.Frame.{headOctets, linkAt, codeAt, paramAt, numberAt, lengthAt, messageOf};
 ghost use Rattle.event.specs.EndToEnd.{sound};
-ghost use Rattle.event.specs.Fields.{faultNumber, faultPlace, isStatus, noneOrStatus, isZero, parameterField, numberField, lengthField, notCarried, outOfRange, fieldChecks};
+ghost use Rattle.event.specs.Fields.{faultNumber, faultPlace, isZero, parameterField, numberField, lengthField, notCarried, outOfRange, fieldChecks};
 ghost use Rattle.event.specs.EventRecord.{framed, eventOf, fieldsIn, reading, fitting, fieldsOf, readingOf};
 ghost use Rattle.event.specs.Look.{Seen};
 
@@ -137,20 +137,11 @@ pub fn link(e: &[u8]) -> u16
     wide(e[2], e[3])
 }
 
-fn is_status(field: u8) -> bool
-    ensures { λ r. ⌜ r ≡ isStatus field ⌝ }
-{
-    match unit::decode(field) {
-        Field::Named(_) => true,
-        Field::Unnamed => false,
-    }
-}
-
 // A field of a peer that is neither none nor one of the nine.
 fn bad_field(field: u8) -> bool
     ensures { λ r. ⌜ r ≡ not (noneOrStatus field) ⌝ }
 {
-    if field == 0 { false } else { !is_status(field) }
+    !unit::none_or_status(field)
 }
 
 // What is wrong with a field, with the place of its first octet.

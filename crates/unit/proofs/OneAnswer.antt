@@ -5,6 +5,8 @@ use Rattle.unit.proofs.Status.code.Kinds as status-code-kinds
 use Rattle.unit.proofs.Status.code.Reads as status-code
 use Rattle.unit.proofs.decode.Kinds as decode-kinds
 use Rattle.unit.proofs.decode.Reads as decode
+use Rattle.unit.proofs.none_or_status.Kinds as none-or-status-kinds
+use Rattle.unit.proofs.none_or_status.Reads as none-or-status
 use Rattle.unit.proofs.write.Kinds as write-kinds
 use Rattle.unit.proofs.write.Reads as write
 use Rattle.unit.proofs.read.Kinds as read-kinds
@@ -29,6 +31,9 @@ status-code-one κs arguments x y e f = equal
 
 pub decode-one : OneAnswer decode-kinds.ps decode-kinds.r decode.Post
 decode-one κs arguments x y e f = equal
+
+pub none-or-status-one : OneAnswer none-or-status-kinds.ps none-or-status-kinds.r none-or-status.Post
+none-or-status-one κs arguments x y e f = equal
 
 pub write-one : OneAnswer write-kinds.ps write-kinds.r write.Post
 write-one κs arguments x y e f = equal

@@ -1,7 +1,7 @@
 -- Clause 10 of Q.2140: the status field, the unit of four octets, and what a message that arrived is.
 use Prim.Native.Nat.{ℕ}
 use mathlib.Core.Path.{_≡_}
-use mathlib.Core.Bool.{cond}
+use mathlib.Core.Bool.{Bool, true, false, cond, _||_}
 use mathlib.Core.List.{List, [], _∷_}
 use lib.Dec.{eqb}
 use Rattle.unit.specs.declared.Status.{Status}
@@ -33,6 +33,17 @@ coded field (s ∷ others) = cond (eqb field (code s)) (Named s) (coded field ot
 
 unfoldable pub decoded : ℕ → Field
 decoded field = coded field statuses
+
+-- A field names one of the nine, or is none, 0.
+abbrev pub isNamed : Field → Bool
+isNamed (Named s) = true
+isNamed Unnamed = false
+
+abbrev pub isStatus : ℕ → Bool
+isStatus field = isNamed (decoded field)
+
+abbrev pub noneOrStatus : ℕ → Bool
+noneOrStatus field = eqb field 0 || isStatus field
 
 -- Figure 5: three reserved octets, then the status. The reserved octets are written 0 (document 01).
 unfoldable pub unitOf : Status → List ℕ

@@ -1,6 +1,6 @@
 // Clause 10 of Q.2140 and its Tables 7 and 8: the four-octet units that two peers exchange, and how many of them prove a link.
 ghost use mathlib.Core.Path.{_≡_};
-ghost use Rattle.unit.specs.Unit.{code, decoded, unitOf, arrived};
+ghost use Rattle.unit.specs.Unit.{noneOrStatus, code, decoded, unitOf, arrived};
 ghost use Rattle.unit.specs.Proving.{mpsCode, upsCode, asked, table7, table8};
 
 // The codes of the status field, as clause 10 lists them.
@@ -75,6 +75,19 @@ pub fn decode(field: u8) -> Field
         PE => Field::Named(Status::PE),
         PNS => Field::Named(Status::PNS),
         _ => Field::Unnamed,
+    }
+}
+
+// Whether a field is one of the nine, or none, 0.
+pub fn none_or_status(field: u8) -> bool
+    ensures { λ r. ⌜ r ≡ noneOrStatus field ⌝ }
+{
+    if field == 0 {
+        return true;
+    }
+    match decode(field) {
+        Field::Named(_) => true,
+        Field::Unnamed => false,
     }
 }
 
