@@ -110,7 +110,7 @@ by-fact : (t : Test) (acts : List Act) (b : Bool) (r q : Row) → in-row t acts 
 by-fact t acts true r q p h s f = of-row t acts r p s f
 by-fact t acts false r q p h s f = of-row t acts q h s f
 
-of-printed : (t : Test) (acts : List Act) (p : Printed) → in-printed t acts p ≡ true → (s : State) (f : Facts) → Holds (t s) acts (chosen f (cell (printed f p) s))
+pub of-printed : (t : Test) (acts : List Act) (p : Printed) → in-printed t acts p ≡ true → (s : State) (f : Facts) → Holds (t s) acts (chosen f (cell (printed f p) s))
 of-printed t acts (one r) h s f = of-row t acts r h s f
 of-printed t acts (two q r w) h s f =
     by-fact t acts (holds q f) r w (left (in-row t acts r) (in-row t acts w) h) (right (in-row t acts r) (in-row t acts w) h) s f

@@ -9,7 +9,7 @@ use lib.ListN.{getD}
 use Rattle.unit.specs.declared.Ups.{Ups}
 use Rattle.table6.specs.declared.State.{State}
 use Rattle.table6.specs.Summary.{over}
-use Rattle.table6.specs.Stored.{numberAt, from, stateAfter, timersAfter, flagsAfter, upsAfter, flagOp, stateOp, upsOp, SoundNumber}
+use Rattle.table6.specs.Stored.{numberAt, confirmed, indicated, from, stateAfter, timersAfter, flagsAfter, upsAfter, flagOp, stateOp, upsOp, SoundNumber}
 use Rattle.table6.proofs.Lists.{alike}
 use Rattle.table6.proofs.Stored.{eight, of-eight}
 
@@ -95,3 +95,10 @@ as-meant n e =
 
 pub sound-number : (c : ℕ) → c < 64 → SoundNumber (numberAt c)
 sound-number c h = as-meant (numberAt c) (alike (λ k. done (numberAt k)) (λ k. meant (numberAt k)) 64 (done 0) (all-numbers) c h)
+
+-- and so do those of the two that go on with congestion
+pub sound-confirmed : SoundNumber confirmed
+sound-confirmed = as-meant confirmed refl
+
+pub sound-indicated : SoundNumber indicated
+sound-indicated = as-meant indicated refl

@@ -1,6 +1,6 @@
 -- The stored table decodes to Table 6: one computed test over all cells, and one law that turns it into the rule at each. Assumes nothing.
 use mathlib.Core.Path.{_≡_, refl, sym, ap, _∙_}
-use mathlib.Core.Bool.{Bool, true, false, cond}
+use mathlib.Core.Bool.{Bool, true, false, cond, _&&_}
 use mathlib.Core.List.{List, [], _∷_, _++_, append-assoc}
 use Prim.Native.Nat.{ℕ, _<_, _≤_}
 use lib.Dec.{eqb, ltb}
@@ -14,7 +14,7 @@ use Rattle.table6.specs.Cell.{Cond, LPO=0, LPO=0&INS=0, LPO=0&INS=1, UU=
 use Rattle.table6.specs.Cell.{Act, tell, alter, Cell, Illegal, to, _⨟_, _⨾_, IF_THEN_ELSE_, Row, cell, Choice, illegal, does, after, chosen}
 use Rattle.table6.specs.Summary.{Summed, refused, sum}
 use Rattle.table6.specs.Rows.{Printed, one, two, printed, rows, nowhere, heading}
-use Rattle.table6.specs.Stored.{place, codes, no-row, rowOf, codeAt, numberAt, Ask, gives, asks, picked, askAt, doneBy, metOf, from, meets, met, metAs}
+use Rattle.table6.specs.Stored.{place, codes, no-row, rowOf, codeAt, numberAt, Ask, gives, asks, picked, askAt, doneBy, plainly, leading, goneOn, metOf, from, meets, met, goesOn, metAs}
 use Rattle.table6.proofs.Lists.{alike, past}
 use Rattle.table6.proofs.Unfolded.{every-row}
 
@@ -84,8 +84,7 @@ by-code : (b : Bool) (row : ℕ) (s : State) (a : Ask) (f : Facts) →
 by-code true row s a f = refl
 by-code false row s a f = stored-way row s a f
 
-coded-met : (row : ℕ) (s : State) (c : ℕ) (f : Facts) → taken (coded-way row s c) f ≡ metAs row s (metOf c f)
-unfolding metOf
+coded-met : (row : ℕ) (s : State) (c : ℕ) (f : Facts) → taken (coded-way row s c) f ≡ metAs row s (plainly c f)
 coded-met row s c f = by-code (eqb c 0) row s (askAt c) f
 
 -- what is left of a way once an answer is known
@@ -193,7 +192,7 @@ printed-by : (p : Printed) (f : Facts) → printedIf (test (asked p) f) p ≡ pr
 printed-by (one r) f = refl
 printed-by (two q r s) f = rw (numbered q f) (either-row (holds q f) q r s)
 
-inside : (row : ℕ) (s : State) (f : Facts) → row < 35 → metAs row s (metOf (codeAt row s) f) ≡ meets (heading row) s f
+inside : (row : ℕ) (s : State) (f : Facts) → row < 35 → metAs row s (plainly (codeAt row s) f) ≡ meets (heading row) s f
 inside row s f h =
     let c : ℕ = codeAt row s in
     let p : Printed = heading row .row in
@@ -204,8 +203,7 @@ inside row s f h =
     ∙ paper-way (heading row .arrives) [] (cell (printedIf (test q f) p) s) f
     ∙ ap (sum (heading row .arrives)) (from-start (chosen f (cell (printedIf (test q f) p) s)) ∙ ap (λ (r : Row). chosen f (cell r s)) (printed-by p f))
 
-no-cell : (row : ℕ) (s : State) (f : Facts) → metAs row s (metOf (getD no-row (place s) 0) f) ≡ meets nowhere s f
-unfolding metOf
+no-cell : (row : ℕ) (s : State) (f : Facts) → metAs row s (plainly (getD no-row (place s) 0) f) ≡ meets nowhere s f
 no-cell row State.S111 f = refl
 no-cell row State.S141 f = refl
 no-cell row State.S212 f = refl
@@ -215,14 +213,103 @@ no-cell row State.S2103 f = refl
 no-cell row State.S2104 f = refl
 no-cell row State.S3105 f = refl
 
-outside : (row : ℕ) (s : State) (f : Facts) → 35 ≤ row → metAs row s (metOf (codeAt row s) f) ≡ meets (heading row) s f
+outside : (row : ℕ) (s : State) (f : Facts) → 35 ≤ row → metAs row s (plainly (codeAt row s) f) ≡ meets (heading row) s f
 unfolding rowOf codeAt
 outside row s f h = rw (← past codes row no-row h, ← past rows row nowhere h) (no-cell row s f)
 
-by-row : (b : Bool) (row : ℕ) (s : State) (f : Facts) → ltb row 35 ≡ b → metAs row s (metOf (codeAt row s) f) ≡ meets (heading row) s f
+by-row : (b : Bool) (row : ℕ) (s : State) (f : Facts) → ltb row 35 ≡ b → metAs row s (plainly (codeAt row s) f) ≡ meets (heading row) s f
 by-row true row s f e = inside row s f (ltb-true row 35 e)
 by-row false row s f e = outside row s f (ltb-false row 35 e)
 
-pub at-each-cell : (row : ℕ) (s : State) (f : Facts) → metAs row s (metOf (codeAt row s) f) ≡ met row s f
+at-each-cell : (row : ℕ) (s : State) (f : Facts) → metAs row s (plainly (codeAt row s) f) ≡ met row s f
 unfolding met
 at-each-cell row s f = by-row (ltb row 35) row s f refl
+
+-- ON A CONGESTED LINK
+
+-- a way on which each outcome goes on
+abbrev going : Bool → State → Way → Way
+going b s (only d) = only (goesOn b s d)
+going b s (when q w v) = when q (going b s w) (going b s v)
+
+gone : (b : Bool) (s : State) (w : Way) (f : Facts) → taken (going b s w) f ≡ goesOn b s (taken w f)
+gone b s (only d) f = refl
+gone b s (when q w v) f = by (test q f) (gone b s w f) (gone b s v f) where
+  by : (z : Bool) → taken (going b s w) f ≡ goesOn b s (taken w f) → taken (going b s v) f ≡ goesOn b s (taken v f) →
+      cond z (taken (going b s w) f) (taken (going b s v) f) ≡ goesOn b s (cond z (taken w f) (taken v f))
+  by true x y = x
+  by false x y = y
+
+-- what the code does there, by whether the peer's field is EM or NM
+abbrev on-congested : Bool → Bool → ℕ → State → ℕ → Way
+on-congested b uu row s c = cond (b && (uu && leading c)) (only (metAs row s (goneOn c))) (given (number UU=EM-or-NM) uu (coded-way row s c))
+
+all-going : (b uu : Bool) →
+    from (λ row. eight (λ s. on-congested b uu row s (codeAt row s))) 0 35 ≡ from (λ row. eight (λ s. going b s (given (number UU=EM-or-NM) uu (coded-way row s (codeAt row s))))) 0 35
+unfolding rowOf codeAt askAt numberAt
+all-going true true = refl
+all-going true false = refl
+all-going false true = refl
+all-going false false = refl
+
+leads-nowhere : (b u : Bool) → b && (u && false) ≡ false
+leads-nowhere true true = refl
+leads-nowhere true false = refl
+leads-nowhere false u = refl
+
+-- a cell that is Illegal leads nowhere: so congestion may be asked first
+congestion-first : (c : ℕ) (f : Facts) (b : Bool) → metOf c f b ≡ cond (b && (f .uu && leading c)) (goneOn c) (plainly c f)
+unfolding metOf
+congestion-first c f b = by (eqb c 0) refl where
+  by : (z : Bool) → eqb c 0 ≡ z →
+      cond z Met.Illegal (cond (b && (f .uu && leading c)) (goneOn c) (doneBy (picked f (askAt c)))) ≡ cond (b && (f .uu && leading c)) (goneOn c) (cond z Met.Illegal (doneBy (picked f (askAt c))))
+  by true e = rw (eqb-true c 0 e, leads-nowhere b (f .uu)) refl
+  by false e = refl
+
+by-congestion : (b z : Bool) (row : ℕ) (s : State) (c : ℕ) (f : Facts) → b && (f .uu && leading c) ≡ z →
+    taken (cond z (only (metAs row s (goneOn c))) (given (number UU=EM-or-NM) (f .uu) (coded-way row s c))) f ≡ metAs row s (cond z (goneOn c) (plainly c f))
+by-congestion b true row s c f e = refl
+by-congestion b false row s c f e = given-way (number UU=EM-or-NM) (f .uu) (coded-way row s c) f refl ∙ coded-met row s c f
+
+going-inside : (b : Bool) (row : ℕ) (s : State) (f : Facts) → row < 35 → metAs row s (metOf (codeAt row s) f b) ≡ goesOn b s (met row s f)
+going-inside b row s f h =
+    let c : ℕ = codeAt row s in
+    let way : Way = given (number UU=EM-or-NM) (f .uu) (coded-way row s c) in
+    let same : on-congested b (f .uu) row s c ≡ going b s way = of-eight (λ t. on-congested b (f .uu) row t (codeAt row t)) (λ t. going b t (given (number UU=EM-or-NM) (f .uu) (coded-way row t (codeAt row t))))
+    (alike (λ k. eight (λ t. on-congested b (f .uu) k t (codeAt k t))) (λ k. eight (λ t. going b t (given (number UU=EM-or-NM) (f .uu) (coded-way k t (codeAt k t))))) 35 [] (all-going b (f .uu)) row h) s in
+    ap (metAs row s) (congestion-first c f b)
+    ∙ sym (by-congestion b (b && (f .uu && leading c)) row s c f refl)
+    ∙ ap (λ (w : Way). taken w f) same
+    ∙ gone b s way f
+    ∙ ap (goesOn b s) (given-way (number UU=EM-or-NM) (f .uu) (coded-way row s c) f refl ∙ coded-met row s c f ∙ at-each-cell row s f)
+
+no-code : (s : State) → getD no-row (place s) 0 ≡ 0
+no-code State.S111 = refl
+no-code State.S141 = refl
+no-code State.S212 = refl
+no-code State.S222 = refl
+no-code State.S242 = refl
+no-code State.S2103 = refl
+no-code State.S2104 = refl
+no-code State.S3105 = refl
+
+nothing-met : (s : State) (f : Facts) → meets nowhere s f ≡ refused
+nothing-met State.S111 f = refl
+nothing-met State.S141 f = refl
+nothing-met State.S212 f = refl
+nothing-met State.S222 f = refl
+nothing-met State.S242 f = refl
+nothing-met State.S2103 f = refl
+nothing-met State.S2104 f = refl
+nothing-met State.S3105 f = refl
+
+going-outside : (b : Bool) (row : ℕ) (s : State) (f : Facts) → 35 ≤ row → metAs row s (metOf (codeAt row s) f b) ≡ goesOn b s (met row s f)
+unfolding rowOf codeAt metOf met
+going-outside b row s f h = rw (← past codes row no-row h, ← past rows row nowhere h, no-code s, nothing-met s f) refl
+
+by-congested-row : (z b : Bool) (row : ℕ) (s : State) (f : Facts) → ltb row 35 ≡ z → metAs row s (metOf (codeAt row s) f b) ≡ goesOn b s (met row s f)
+by-congested-row true b row s f e = going-inside b row s f (ltb-true row 35 e)
+by-congested-row false b row s f e = going-outside b row s f (ltb-false row 35 e)
+
+pub at-each-link : (row : ℕ) (s : State) (f : Facts) (b : Bool) → metAs row s (metOf (codeAt row s) f b) ≡ goesOn b s (met row s f)
+at-each-link row s f b = by-congested-row (ltb row 35) b row s f refl

@@ -41,9 +41,10 @@ pub data Done : Type 0 where
   Set-LPO=0 Set-LPO=1 : Done
   Set-INS-flag Reset-INS-flag : Done
   Generate-N1 Set-C1=N1 Decrement-C1 : Done
-  -- not printed: what an event does by itself, by document 01
+  -- not printed: what an event does by itself, by document 01, and by 2026-07 to the congested flag
   connection-up take-BSNT : Done
   end : Timer → Done
+  congested : Bool → Done
 
 pub data Act : Type 0 where
   tell : Told → Act

@@ -1,11 +1,12 @@
 -- The 35 rows of document 01 over the 38 that the paper prints: where the paper has two rows for an event, the peer's field or the source chooses. And
--- what an event does by itself before the cell's actions: a confirm brings a connection up, data gives its number to BSNT, an expiry ends its timer.
+-- what an event does by itself before the cell's actions: a confirm brings a connection up, data gives its number to BSNT, an expiry ends its timer, congestion
+-- and its end set and clear the congested flag.
 use Prim.Native.Nat.{ℕ}
-use mathlib.Core.Bool.{cond}
+use mathlib.Core.Bool.{true, false, cond}
 use mathlib.Core.List.{List, [], _∷_}
 use lib.ListN.{getD}
 use Rattle.table6.specs.declared.Facts.{Facts}
-use Rattle.table6.specs.Cell.{T1, T2, T3, Done, connection-up, take-BSNT, end, Act, alter, Cond, UU=EM-or-NM, Source=User, holds, Illegal, Row}
+use Rattle.table6.specs.Cell.{T1, T2, T3, Done, connection-up, take-BSNT, end, congested, Act, alter, Cond, UU=EM-or-NM, Source=User, holds, Illegal, Row}
 use Rattle.table6.specs.Table6 as paper
 
 pub data Printed : Type 0 where
@@ -34,6 +35,13 @@ AA-ESTABLISH-confirm = record { arrives = alter connection-up ∷ []; row = two 
 
 abbrev pub AA-RELEASE-indication : Heading
 AA-RELEASE-indication = record { arrives = []; row = two Source=User paper.AA-RELEASE-indication-from-User paper.AA-RELEASE-indication-from-SSCOP }
+
+-- "A congested flag, set by an accepted 39 and cleared by an accepted 40" (2026-07).
+abbrev pub Local-Congestion : Heading
+Local-Congestion = behind (congested true) paper.Local-Congestion
+
+abbrev pub Local-Congestion-Ceased : Heading
+Local-Congestion-Ceased = behind (congested false) paper.Local-Congestion-Ceased
 
 -- In the order of document 01's event codes.
 abbrev pub rows : List Heading
@@ -67,8 +75,8 @@ rows =
     ∷ plain paper.MAAL-FORCE-PROVING-request
     ∷ plain paper.MAAL-FORCE-EMERGENCY-request
     ∷ plain paper.MAAL-CLEAR-FORCE-MODES-request
-    ∷ plain paper.Local-Congestion
-    ∷ plain paper.Local-Congestion-Ceased
+    ∷ Local-Congestion
+    ∷ Local-Congestion-Ceased
     ∷ behind (end T1) paper.T1-expires
     ∷ behind (end T2) paper.T2-expires
     ∷ behind (end T3) paper.T3-expires-and-C1>0

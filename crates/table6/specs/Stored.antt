@@ -2,8 +2,8 @@
 -- shows that they decode to Table 6 (proofs/Stored.antt).
 use Prim.Native.Nat.{ℕ, zero, suc, _+_, _-_, _*_, _^_, _/_, _%_}
 use mathlib.Core.Path.{_≡_}
-use mathlib.Core.Bool.{Bool, true, false, cond, _&&_}
-use mathlib.Core.List.{List, [], _∷_, map}
+use mathlib.Core.Bool.{Bool, true, false, cond, not, _&&_}
+use mathlib.Core.List.{List, [], _∷_, _++_, map}
 use lib.Bits.{bitAnd}
 use lib.Dec.{eqb, leb, ltb}
 use lib.ListN.{getD, length}
@@ -14,10 +14,11 @@ use Rattle.table6.specs.declared.State.{State}
 use Rattle.table6.specs.declared.Facts.{Facts}
 use Rattle.table6.specs.declared.Met.{Met}
 use Rattle.table6.specs.declared.effects.Alternative.{Alternative}
-use Rattle.table6.specs.Words.{–, OOS, PO, INS, NM, ANS, MI, PE, PNS, LR, RR, SR, ALN, CC, CD, SREC, UDR, PDUT, SSCOP-UU, Parameter-Data}
-use Rattle.table6.specs.Cell.{T1, T2, T3, Told, Cond, LPO=0, LPO=0&INS=0, LPO=0&INS=1, UU=EM-or-NM, Source=User, BSNT-available, MU>4, holds, cell, chosen}
+use Rattle.table6.specs.Words.{–, OOS, PO, INS, NM, ANS, MI, PE, PNS, LR, RR, SR, ALN, CC, CD, SREC, UDR, PDUT, SSCOP-UU, Parameter-Data, 2/4/2, is-2/10/3}
+use Rattle.table6.specs.Cell.{T1, T2, T3, Told, Act, tell, Cond, LPO=0, LPO=0&INS=0, LPO=0&INS=1, UU=EM-or-NM, Source=User, BSNT-available, MU>4, holds, cell, chosen}
+use Rattle.table6.specs.Order.{signals}
 use Rattle.table6.specs.Rows.{printed, Heading, heading}
-use Rattle.table6.specs.Summary.{Op, keep, put, over, Count, same, decided, less, Summary, still, with-mps, with-ups, with-c1, with-bsnt, Summed, refused, summed, sum}
+use Rattle.table6.specs.Summary.{Op, keep, put, over, Count, same, decided, less, Summary, still, with-mps, with-ups, with-c1, with-bsnt, with-congested, Summed, refused, summed, summary, sum}
 
 -- CELLS
 
@@ -128,9 +129,13 @@ abbrev pub octets : List ℕ → ℕ
 octets [] = 0
 octets (w ∷ ws) = w + 256 * octets ws
 
+-- a release is sent, with the first to the sixth of the fields that the table sends: OOS, PO, ANS, MI, PE, PNS
+abbrev pub sends : ℕ → ℕ
+sends k = 2 ^ 17 * k
+
 -- what becomes of the link; how many words, and each
 abbrev pub number : ℕ → List ℕ → ℕ
-number change ws = change + 2 ^ 18 * length ws + 2 ^ 24 * octets ws
+number change ws = change + 2 ^ 20 * length ws + 2 ^ 24 * octets ws
 
 -- The number of each code.
 abbrev pub numbers : List ℕ
@@ -138,11 +143,11 @@ numbers =
     0  -- Illegal
     ∷ number kept (46 ∷ 18 ∷ [])  -- MESSG
     ∷ number (out-of-service - t1 - t2) (19 ∷ 30 ∷ 31 ∷ [])  -- STOP3
-    ∷ number (released - t2) (5 ∷ 19 ∷ 31 ∷ [])  -- STOP4
+    ∷ number (released - t2 + sends 1) (5 ∷ 19 ∷ 31 ∷ [])  -- STOP4
     ∷ number (released - t2) (19 ∷ 31 ∷ [])  -- STOP5
-    ∷ number (released - t2 - t3) (5 ∷ 25 ∷ 13 ∷ 31 ∷ 32 ∷ [])  -- STOP6
-    ∷ number (released - t2) (5 ∷ 25 ∷ 31 ∷ [])  -- STOP7
-    ∷ number released (5 ∷ 25 ∷ [])  -- STOP8
+    ∷ number (released - t2 - t3 + sends 1) (5 ∷ 25 ∷ 13 ∷ 31 ∷ 32 ∷ [])  -- STOP6
+    ∷ number (released - t2 + sends 1) (5 ∷ 25 ∷ 31 ∷ [])  -- STOP7
+    ∷ number (released + sends 1) (5 ∷ 25 ∷ [])  -- STOP8
     ∷ number (kept - state + 3 - t2 + 8 * t2) (40 ∷ 22 ∷ 34 ∷ [])  -- START
     ∷ number kept (37 ∷ [])  -- FSNC_
     ∷ number kept []  -- ALONE
@@ -150,39 +155,39 @@ numbers =
     ∷ number awaits (33 ∷ [])  -- RCNF5
     ∷ number (kept - ins + 4 * ins) []  -- INS_6
     ∷ number (kept - state + 7 - t2) (1 ∷ 21 ∷ 31 ∷ [])  -- INS_7
-    ∷ number abandoned (9 ∷ 24 ∷ [])  -- LONG7
+    ∷ number (abandoned + sends 5) (9 ∷ 24 ∷ [])  -- LONG7
     ∷ number kept (44 ∷ [])  -- LONG8
-    ∷ number (abandoned - t3) (24 ∷ 9 ∷ 13 ∷ 32 ∷ [])  -- PERR6
-    ∷ number abandoned (24 ∷ 9 ∷ [])  -- RSYN7
-    ∷ number released (9 ∷ 2 ∷ 27 ∷ [])  -- PERR8
+    ∷ number (abandoned - t3 + sends 5) (24 ∷ 9 ∷ 13 ∷ 32 ∷ [])  -- PERR6
+    ∷ number (abandoned + sends 5) (24 ∷ 9 ∷ [])  -- RSYN7
+    ∷ number (released + sends 5) (9 ∷ 2 ∷ 27 ∷ [])  -- PERR8
     ∷ number kept (11 ∷ 16 ∷ [])  -- RECOV
     ∷ number kept (17 ∷ [])  -- UDATA
     ∷ number kept (3 ∷ [])  -- RCOMP
-    ∷ number (abandoned - t3) (10 ∷ 32 ∷ [])  -- PFAIL
+    ∷ number (abandoned - t3 + sends 6) (10 ∷ 32 ∷ [])  -- PFAIL
     ∷ number (out-of-service - t1 - t2) (2 ∷ 30 ∷ 31 ∷ [])  -- MREL3
-    ∷ number (released - t2) (8 ∷ 2 ∷ 31 ∷ [])  -- MREL4
+    ∷ number (released - t2 + sends 4) (8 ∷ 2 ∷ 31 ∷ [])  -- MREL4
     ∷ number (released - t2) (2 ∷ 31 ∷ [])  -- MREL5
-    ∷ number (released - t2 - t3) (8 ∷ 2 ∷ 31 ∷ 32 ∷ [])  -- MREL6
-    ∷ number released (8 ∷ 2 ∷ [])  -- MREL8
+    ∷ number (released - t2 - t3 + sends 4) (8 ∷ 2 ∷ 31 ∷ 32 ∷ [])  -- MREL6
+    ∷ number (released + sends 4) (8 ∷ 2 ∷ [])  -- MREL8
     ∷ number (kept - lpo + 4 * lpo) []  -- OUTG_
-    ∷ number (released - t2 - lpo + 4 * lpo) (6 ∷ 2 ∷ 31 ∷ [])  -- OUTG7
-    ∷ number (released - lpo + 4 * lpo) (6 ∷ 2 ∷ [])  -- OUTG8
+    ∷ number (released - t2 - lpo + 4 * lpo + sends 2) (6 ∷ 2 ∷ 31 ∷ [])  -- OUTG7
+    ∷ number (released - lpo + 4 * lpo + sends 2) (6 ∷ 2 ∷ [])  -- OUTG8
     ∷ number (kept - lpo) []  -- RCVRD
-    ∷ number (abandoned - t3) (10 ∷ 23 ∷ 13 ∷ 32 ∷ [])  -- CONG6
+    ∷ number (abandoned - t3 + sends 6) (10 ∷ 23 ∷ 13 ∷ 32 ∷ [])  -- CONG6
     ∷ number kept (38 ∷ 15 ∷ [])  -- CONG_
     ∷ number kept (14 ∷ [])  -- CEAS5
     ∷ number kept (0 ∷ 14 ∷ [])  -- CEAS_
     ∷ number (kept - state + 3 - t1) (40 ∷ [])  -- T1EX3
     ∷ number (out-of-service - t1 - t2) (2 ∷ 26 ∷ 30 ∷ [])  -- T2EX3
-    ∷ number (released - t2) (7 ∷ 2 ∷ 26 ∷ [])  -- T2EX4
+    ∷ number (released - t2 + sends 3) (7 ∷ 2 ∷ 26 ∷ [])  -- T2EX4
     ∷ number (released - t2) (2 ∷ 20 ∷ [])  -- T2EX5
-    ∷ number (released - t2 - t3) (26 ∷ 13 ∷ 2 ∷ 7 ∷ 32 ∷ [])  -- T2EX6
-    ∷ number (released - t2) (26 ∷ 2 ∷ 7 ∷ [])  -- T2EX7
+    ∷ number (released - t2 - t3 + sends 3) (26 ∷ 13 ∷ 2 ∷ 7 ∷ 32 ∷ [])  -- T2EX6
+    ∷ number (released - t2 + sends 3) (26 ∷ 2 ∷ 7 ∷ [])  -- T2EX7
     ∷ number (kept - t3 + 8 * t3) (42 ∷ 35 ∷ [])  -- T3PRV
     ∷ number kept (36 ∷ [])  -- BSNT_
     ∷ number kept (4 ∷ [])  -- BSNTN
-    ∷ number kept (6 ∷ [])  -- EIND1
-    ∷ number kept (5 ∷ [])  -- EIN1A
+    ∷ number (kept + sends 2) (6 ∷ [])  -- EIND1
+    ∷ number (kept + sends 1) (5 ∷ [])  -- EIN1A
     ∷ number kept (45 ∷ [])  -- RETRV
     ∷ number kept []  -- RETRN
     ∷ number awaits (39 ∷ 33 ∷ [])  -- RIND_
@@ -192,17 +197,30 @@ numbers =
     ∷ number out-of-service (2 ∷ 39 ∷ [])  -- RIND8
     ∷ number out-of-service (2 ∷ 29 ∷ [])  -- RIN8S
     ∷ number proves (12 ∷ 35 ∷ [])  -- ECNF4
-    ∷ number (abandoned - ins) (9 ∷ 24 ∷ [])  -- ECN4N
+    ∷ number (abandoned - ins + sends 5) (9 ∷ 24 ∷ [])  -- ECN4N
     ∷ number (proves - t1) (41 ∷ 12 ∷ 30 ∷ 35 ∷ [])  -- EIND3
-    ∷ number kept (9 ∷ 24 ∷ [])  -- EIN3N
-    ∷ number (released - t2 - t3) (6 ∷ 2 ∷ 25 ∷ 13 ∷ 31 ∷ [])  -- T3END
+    ∷ number (kept + sends 5) (9 ∷ 24 ∷ [])  -- EIN3N
+    ∷ number (released - t2 - t3 + sends 2) (6 ∷ 2 ∷ 25 ∷ 13 ∷ 31 ∷ [])  -- T3END
     ∷ number (kept - state + 7 - t2 - t3) (13 ∷ 43 ∷ 21 ∷ 1 ∷ 31 ∷ [])  -- T3INS
     ∷ number (kept - state + 6 - t3) (13 ∷ 43 ∷ [])  -- T3RDY
-    ∷ 2 ^ 18 * 15  -- no cell's
+    ∷ 2 ^ 20 * 15  -- no cell's
     ∷ []
 
 unfoldable pub numberAt : ℕ → ℕ
 numberAt c = getD numbers c 0
+
+-- What the two codes do that lead to 2/10/3, and congestion there behind them: how many words, and the words by themselves.
+abbrev pub confirmed : ℕ
+confirmed = abandoned - ins - t3 + sends 6 + 2 ^ 20 * 6
+
+abbrev pub confirmedWords : ℕ
+confirmedWords = octets (12 ∷ 35 ∷ 10 ∷ 23 ∷ 13 ∷ 32 ∷ [])
+
+abbrev pub indicated : ℕ
+indicated = abandoned - ins - t3 - t1 + sends 6 + 2 ^ 20 * 8
+
+abbrev pub indicatedWords : ℕ
+indicatedWords = octets (41 ∷ 12 ∷ 30 ∷ 35 ∷ 10 ∷ 23 ∷ 13 ∷ 32 ∷ [])
 
 -- WHAT A NUMBER DOES, BY MASKS
 
@@ -237,6 +255,16 @@ stateOp n = cond (eqb (n / 8 % 8) 7) keep (put (stateAt (n % 8)))
 abbrev pub upsOp : ℕ → Op Ups
 upsOp n = cond (eqb (n / 65536 % 2) 1) keep (put Ups.Normal)
 
+-- which of the six fields a number sends, 0 if none, and the field
+abbrev pub sentBy : ℕ → ℕ
+sentBy n = n / 2 ^ 17 % 8
+
+abbrev pub fieldSent : ℕ → ℕ
+fieldSent k = cond (ltb k 3) k (k + 4)
+
+abbrev pub lastOp : ℕ → Op ℕ
+lastOp n = cond (eqb (sentBy n) 0) keep (put (fieldSent (sentBy n)))
+
 -- What the event of a row does by itself, in whatever state it is accepted.
 abbrev pub arrival : ℕ → Summary
 arrival row =
@@ -246,7 +274,9 @@ arrival row =
     (cond (eqb row 26) (with-mps (put Mps.Normal) still)
     (cond (eqb row 27) (with-mps (put Mps.Emergency) still)
     (cond (eqb row 28) (with-mps (put Mps.Neutral) still)
-    (cond (eqb row 33) (with-c1 (less same) still) still))))))
+    (cond (eqb row 29) (with-congested (put true) still)
+    (cond (eqb row 30) (with-congested (put false) still)
+    (cond (eqb row 33) (with-c1 (less same) still) still))))))))
 
 -- one behind the other
 abbrev pub behind : {A : Type 0} → Op A → Op A → Op A
@@ -266,6 +296,8 @@ changed a up n =
       t3 = flagOp (n / 256 % 2) (n / 2048 % 2);
       c1 = cond up decided (a .c1);
       bsnt = cond up (put false) (a .bsnt);
+      congested = a .congested;
+      last = lastOp n;
     }
 
 -- The masks do what the number means, in every state and with every timer, flag and UPS.
@@ -341,15 +373,16 @@ from f i (suc n) = f i ∷ from f (suc i) n
 
 -- how many words a number has
 abbrev pub wordCount : ℕ → ℕ
-wordCount n = n / 2 ^ 18 % 16
+wordCount n = n / 2 ^ 20 % 16
 
 -- the n lowest octets of a number, the lowest first
 abbrev pub lowest : ℕ → ℕ → List ℕ
 lowest zero r = []
 lowest (suc n) r = r % 256 ∷ lowest n (r / 256)
 
-abbrev pub said : ℕ → List Told
-said n = map wordAt (lowest (wordCount n) (n / 2 ^ 24))
+-- what so many words say
+abbrev pub said : ℕ → ℕ → List Told
+said n ws = map wordAt (lowest n ws)
 
 -- CODES
 
@@ -380,11 +413,25 @@ asking c =
 unfoldable pub askAt : ℕ → Ask
 askAt c = cond (ltb c 44) (gives c false) (asking c)
 
-abbrev pub doneBy : Alternative → Met
-doneBy p = Met.Does (numberAt (p .0 % 64)) (p .1)
+-- a number with its own words
+abbrev pub does : ℕ → Bool → Met
+does n up = Met.Does n (n / 2 ^ 24) up
 
-unfoldable pub metOf : ℕ → Facts → Met
-metOf c f = cond (eqb c 0) Met.Illegal (doneBy (picked f (askAt c)))
+abbrev pub doneBy : Alternative → Met
+doneBy p = does (numberAt (p .0 % 64)) (p .1)
+
+abbrev pub plainly : ℕ → Facts → Met
+plainly c f = cond (eqb c 0) Met.Illegal (doneBy (picked f (askAt c)))
+
+-- the codes that may lead to 2/10/3, and what they do where the link is congested
+abbrev pub leading : ℕ → Bool
+leading c = leb 56 c && ltb c 60
+
+abbrev pub goneOn : ℕ → Met
+goneOn c = cond (ltb c 58) (Met.Does confirmed confirmedWords true) (Met.Does indicated indicatedWords true)
+
+unfoldable pub metOf : ℕ → Facts → Bool → Met
+metOf c f congested = cond (eqb c 0) Met.Illegal (cond (congested && (f .uu && leading c)) (goneOn c) (doneBy (picked f (askAt c))))
 
 -- WHAT THE CODE ANSWERS
 
@@ -395,10 +442,21 @@ meets h state f = sum (h .arrives) (chosen f (cell (printed f (h .row)) state))
 unfoldable pub met : ℕ → State → Facts → Summed
 met row = meets (heading row)
 
+-- What congestion does in 2/10/3, behind a cell that leads there from another state on a congested link (2026-07).
+abbrev pub givesUp : List Act
+givesUp =
+    tell (Told.AA-RELEASE-request PNS) ∷ tell (Told.MAAL-REPORT-indication LR – CD) ∷ tell Told.MAAL-STOP-PROVING-indication ∷ tell (Told.Reset T3) ∷ []
+
+abbrev pub goesOn : Bool → State → Summed → Summed
+goesOn congested state refused = refused
+goesOn congested state (summed s says next) =
+    cond (not (is-2/10/3 state) && (is-2/10/3 next && over (s .congested) congested))
+    (summed (summary givesUp s) (says ++ signals givesUp) 2/4/2) (summed s says next)
+
 abbrev pub metAs : ℕ → State → Met → Summed
 metAs row state Met.Illegal = refused
-metAs row state (Met.Does n up) = summed (changed (arrival row) up n) (said n) (over (stateOp n) state)
+metAs row state (Met.Does n ws up) = summed (changed (arrival row) up n) (said (wordCount n) ws) (over (stateOp n) state)
 
 abbrev pub Sound : Met → Type 0
 Sound Met.Illegal = Unit {0}
-Sound (Met.Does n up) = SoundNumber n
+Sound (Met.Does n ws up) = SoundNumber n

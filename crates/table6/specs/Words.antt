@@ -1,6 +1,6 @@
 -- The abbreviations of Q.2140, and the number of each at the places where it can stand; the names of the states.
 use Prim.Native.Nat.{ℕ, suc}
-use mathlib.Core.Bool.{Bool, cond}
+use mathlib.Core.Bool.{Bool, true, false, cond}
 use mathlib.Core.List.{List, [], _∷_}
 use lib.Dec.{eqb}
 use Rattle.unit.specs.declared.Status.{Status}
@@ -93,3 +93,14 @@ abbrev pub 2/10/4 : State
 
 abbrev pub 3/10/5 : State
 3/10/5 = State.S3105
+
+-- whether a state is 2/10/3, in which a link is proved
+abbrev pub is-2/10/3 : State → Bool
+is-2/10/3 State.S111 = false
+is-2/10/3 State.S141 = false
+is-2/10/3 State.S212 = false
+is-2/10/3 State.S222 = false
+is-2/10/3 State.S242 = false
+is-2/10/3 State.S2103 = true
+is-2/10/3 State.S2104 = false
+is-2/10/3 State.S3105 = false

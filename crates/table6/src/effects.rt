@@ -3,12 +3,13 @@ use crate::Facts;
 use crate::Met;
 use crate::cells;
 ghost use mathlib.Core.Path.{_≡_};
-ghost use mathlib.Core.Bool.{cond};
-ghost use Rattle.table6.specs.Stored.{numberAt, seldomAsks, askAt, picked, metOf};
+ghost use mathlib.Core.Bool.{cond, _&&_};
+ghost use Rattle.table6.specs.Stored.{numberAt, seldomAsks, askAt, picked, leading, goneOn, metOf};
 
 // The number, from its lowest bit: the next state (bits 0 to 2); a mask that keeps the state, or none of it (3 to 5); of T1, T2 and T3 those that are kept
-// as they are (6 to 8) and those that run (9 to 11); the same of the INS flag and LPO (12, 13 and 14, 15); whether UPS is kept or becomes Normal (16); how
-// many signals (18 to 21), and each in an octet (from 24 on). So state, timers, flags and UPS are altered by masks, with no branch.
+// as they are (6 to 8) and those that run (9 to 11); the same of the INS flag and LPO (12, 13 and 14, 15); whether UPS is kept or becomes Normal (16); which field
+// of a release is sent (17 to 19); how many signals (20 to 23), and each in an octet (from 24 on). So state, timers, flags and UPS are altered by masks, with no
+// branch.
 const TO_111: u64 = 0;
 
 const TO_141: u64 = 1;
@@ -52,7 +53,22 @@ const INS_1: u64 = 16384;
 const LPO_1: u64 = 32768;
 
 // A signal more, and the places of the signals.
-pub const SAYS: u64 = 262144;
+pub const SAYS: u64 = 1048576;
+
+// A release is sent: with which of these fields.
+pub const SENDS: u64 = 131072;
+
+const SENDS_OOS: u64 = SENDS;
+
+const SENDS_PO: u64 = 2 * SENDS;
+
+const SENDS_ANS: u64 = 3 * SENDS;
+
+const SENDS_MI: u64 = 4 * SENDS;
+
+const SENDS_PE: u64 = 5 * SENDS;
+
+const SENDS_PNS: u64 = 6 * SENDS;
 
 pub const FIRST: u64 = 16777216;
 
@@ -191,6 +207,7 @@ const STOP3: u64 = OUT_OF_SERVICE - T1 - T2
 
 const STOP4: u64 = RELEASED - T2
     + 3 * SAYS
+    + SENDS_OOS
     + RELEASE_OOS * FIRST
     + REPORT_OOS * SECOND
     + RESET_T2 * THIRD;
@@ -199,6 +216,7 @@ const STOP5: u64 = RELEASED - T2 + 2 * SAYS + REPORT_OOS * FIRST + RESET_T2 * SE
 
 const STOP6: u64 = RELEASED - T2 - T3
     + 5 * SAYS
+    + SENDS_OOS
     + RELEASE_OOS * FIRST
     + REPORT_LR_OOS * SECOND
     + STOP * THIRD
@@ -207,11 +225,12 @@ const STOP6: u64 = RELEASED - T2 - T3
 
 const STOP7: u64 = RELEASED - T2
     + 3 * SAYS
+    + SENDS_OOS
     + RELEASE_OOS * FIRST
     + REPORT_LR_OOS * SECOND
     + RESET_T2 * THIRD;
 
-const STOP8: u64 = RELEASED + 2 * SAYS + RELEASE_OOS * FIRST + REPORT_LR_OOS * SECOND;
+const STOP8: u64 = RELEASED + 2 * SAYS + SENDS_OOS + RELEASE_OOS * FIRST + REPORT_LR_OOS * SECOND;
 
 const START: u64 = KEPT - STATE + TO_222 - T2
     + T2_RUNS
@@ -236,21 +255,23 @@ const INS_7: u64 = KEPT - STATE + TO_3105 - T2
     + REPORT_INS * SECOND
     + RESET_T2 * THIRD;
 
-const LONG7: u64 = ABANDONED + 2 * SAYS + RELEASE_PE * FIRST + REPORT_LR_PE * SECOND;
+const LONG7: u64 = ABANDONED + 2 * SAYS + SENDS_PE + RELEASE_PE * FIRST + REPORT_LR_PE * SECOND;
 
 const LONG8: u64 = KEPT + SAYS + RECEIVED_MESSAGE * FIRST;
 
 const PERR6: u64 = ABANDONED - T3
     + 4 * SAYS
     + REPORT_LR_PE * FIRST
+    + SENDS_PE
     + RELEASE_PE * SECOND
     + STOP * THIRD
     + RESET_T3 * FOURTH;
 
-const RSYN7: u64 = ABANDONED + 2 * SAYS + REPORT_LR_PE * FIRST + RELEASE_PE * SECOND;
+const RSYN7: u64 = ABANDONED + 2 * SAYS + REPORT_LR_PE * FIRST + SENDS_PE + RELEASE_PE * SECOND;
 
 const PERR8: u64 = RELEASED
     + 3 * SAYS
+    + SENDS_PE
     + RELEASE_PE * FIRST
     + OUT * SECOND
     + REPORT_LR_OOS_PE * THIRD;
@@ -261,7 +282,7 @@ const UDATA: u64 = KEPT + SAYS + REPORT_UDR * FIRST;
 
 const RCOMP: u64 = KEPT + SAYS + RETRIEVAL_COMPLETE * FIRST;
 
-const PFAIL: u64 = ABANDONED - T3 + 2 * SAYS + RELEASE_PNS * FIRST + RESET_T3 * SECOND;
+const PFAIL: u64 = ABANDONED - T3 + 2 * SAYS + SENDS_PNS + RELEASE_PNS * FIRST + RESET_T3 * SECOND;
 
 const MREL3: u64 = OUT_OF_SERVICE - T1 - T2
     + 3 * SAYS
@@ -269,34 +290,42 @@ const MREL3: u64 = OUT_OF_SERVICE - T1 - T2
     + RESET_T1 * SECOND
     + RESET_T2 * THIRD;
 
-const MREL4: u64 = RELEASED - T2 + 3 * SAYS + RELEASE_MI * FIRST + OUT * SECOND + RESET_T2 * THIRD;
+const MREL4: u64 = RELEASED - T2
+    + 3 * SAYS
+    + SENDS_MI
+    + RELEASE_MI * FIRST
+    + OUT * SECOND
+    + RESET_T2 * THIRD;
 
 const MREL5: u64 = RELEASED - T2 + 2 * SAYS + OUT * FIRST + RESET_T2 * SECOND;
 
 const MREL6: u64 = RELEASED - T2 - T3
     + 4 * SAYS
+    + SENDS_MI
     + RELEASE_MI * FIRST
     + OUT * SECOND
     + RESET_T2 * THIRD
     + RESET_T3 * FOURTH;
 
-const MREL8: u64 = RELEASED + 2 * SAYS + RELEASE_MI * FIRST + OUT * SECOND;
+const MREL8: u64 = RELEASED + 2 * SAYS + SENDS_MI + RELEASE_MI * FIRST + OUT * SECOND;
 
 const OUTG_: u64 = KEPT - LPO + LPO_1;
 
 const OUTG7: u64 = RELEASED - T2 - LPO
     + LPO_1
     + 3 * SAYS
+    + SENDS_PO
     + RELEASE_PO * FIRST
     + OUT * SECOND
     + RESET_T2 * THIRD;
 
-const OUTG8: u64 = RELEASED - LPO + LPO_1 + 2 * SAYS + RELEASE_PO * FIRST + OUT * SECOND;
+const OUTG8: u64 = RELEASED - LPO + LPO_1 + 2 * SAYS + SENDS_PO + RELEASE_PO * FIRST + OUT * SECOND;
 
 const RCVRD: u64 = KEPT - LPO;
 
 const CONG6: u64 = ABANDONED - T3
     + 4 * SAYS
+    + SENDS_PNS
     + RELEASE_PNS * FIRST
     + REPORT_LR_CD * SECOND
     + STOP * THIRD
@@ -318,6 +347,7 @@ const T2EX3: u64 = OUT_OF_SERVICE - T1 - T2
 
 const T2EX4: u64 = RELEASED - T2
     + 3 * SAYS
+    + SENDS_ANS
     + RELEASE_ANS * FIRST
     + OUT * SECOND
     + REPORT_LR_OOS_ANS * THIRD;
@@ -329,6 +359,7 @@ const T2EX6: u64 = RELEASED - T2 - T3
     + REPORT_LR_OOS_ANS * FIRST
     + STOP * SECOND
     + OUT * THIRD
+    + SENDS_ANS
     + RELEASE_ANS * FOURTH
     + RESET_T3 * FIFTH;
 
@@ -336,6 +367,7 @@ const T2EX7: u64 = RELEASED - T2
     + 3 * SAYS
     + REPORT_LR_OOS_ANS * FIRST
     + OUT * SECOND
+    + SENDS_ANS
     + RELEASE_ANS * THIRD;
 
 const T3PRV: u64 = KEPT - T3 + T3_RUNS + 2 * SAYS + UNIT_NM * FIRST + SET_T3 * SECOND;
@@ -344,9 +376,9 @@ const BSNT_: u64 = KEPT + SAYS + BSNT * FIRST;
 
 const BSNTN: u64 = KEPT + SAYS + BSNT_NOT_RETRIEVABLE * FIRST;
 
-const EIND1: u64 = KEPT + SAYS + RELEASE_PO * FIRST;
+const EIND1: u64 = KEPT + SAYS + SENDS_PO + RELEASE_PO * FIRST;
 
-const EIN1A: u64 = KEPT + SAYS + RELEASE_OOS * FIRST;
+const EIN1A: u64 = KEPT + SAYS + SENDS_OOS + RELEASE_OOS * FIRST;
 
 const RETRV: u64 = KEPT + SAYS + RETRIEVED_MESSAGES * FIRST;
 
@@ -376,7 +408,11 @@ const RIN8S: u64 = OUT_OF_SERVICE + 2 * SAYS + OUT * FIRST + REPORT_SR_OOS * SEC
 
 const ECNF4: u64 = PROVES + 2 * SAYS + PROVE * FIRST + SET_T3 * SECOND;
 
-const ECN4N: u64 = ABANDONED - INS + 2 * SAYS + RELEASE_PE * FIRST + REPORT_LR_PE * SECOND;
+const ECN4N: u64 = ABANDONED - INS
+    + 2 * SAYS
+    + SENDS_PE
+    + RELEASE_PE * FIRST
+    + REPORT_LR_PE * SECOND;
 
 const EIND3: u64 = PROVES - T1
     + 4 * SAYS
@@ -385,10 +421,11 @@ const EIND3: u64 = PROVES - T1
     + RESET_T1 * THIRD
     + SET_T3 * FOURTH;
 
-const EIN3N: u64 = KEPT + 2 * SAYS + RELEASE_PE * FIRST + REPORT_LR_PE * SECOND;
+const EIN3N: u64 = KEPT + 2 * SAYS + SENDS_PE + RELEASE_PE * FIRST + REPORT_LR_PE * SECOND;
 
 const T3END: u64 = RELEASED - T2 - T3
     + 5 * SAYS
+    + SENDS_PO
     + RELEASE_PO * FIRST
     + OUT * SECOND
     + REPORT_LR_OOS * THIRD
@@ -404,6 +441,16 @@ const T3INS: u64 = KEPT - STATE + TO_3105 - T2 - T3
     + RESET_T2 * FIFTH;
 
 const T3RDY: u64 = KEPT - STATE + TO_2104 - T3 + 2 * SAYS + STOP * FIRST + UNIT_INS * SECOND;
+
+// What ECNF4 and EIND3 do where they lead to 2/10/3 on a congested link: congestion there follows at once (2026-07), and gives the connection up. The signals of both
+// are more than a number has place for: the words stand by themselves, those of CONG6 behind the first ones.
+const CONFIRMED: u64 = ABANDONED - INS - T3 + SENDS_PNS + 6 * SAYS;
+
+const CONFIRMED_WORDS: u64 = ECNF4 / FIRST + CONG6 / FIRST * 65536;
+
+const INDICATED: u64 = ABANDONED - INS - T3 - T1 + SENDS_PNS + 8 * SAYS;
+
+const INDICATED_WORDS: u64 = EIND3 / FIRST + CONG6 / FIRST * 4294967296;
 
 // No cell has the last code. Its number counts more signals than any other: else the compiler would write the loop over them out turn by turn (D63).
 const NO_CELL: u64 = 15 * SAYS;
@@ -540,13 +587,37 @@ fn chosen(code: u8, f: Facts) -> Alternative
     seldom(code, f)
 }
 
+// The same of a code that leads to 2/10/3 on a congested link.
+fn gone_on(code: u8) -> Met
+    ensures { λ r. ⌜ r ≡ goneOn code ⌝ }
+{
+    if code < cells::EIND3 {
+        return Met::Does(CONFIRMED, CONFIRMED_WORDS, true);
+    }
+    Met::Does(INDICATED, INDICATED_WORDS, true)
+}
+
+// Whether it does: the link is congested, which it seldom is, and the peer's field is EM or NM.
+fn goes_on(code: u8, f: Facts, congested: bool) -> bool
+    ensures { λ r. ⌜ r ≡ (congested && (f .uu && leading code)) ⌝ }
+{
+    if congested {
+        return f.uu & ((cells::ECNF4 <= code) & (code < cells::T3END));
+    }
+    false
+}
+
 // What a code does to the link, and its signals, where the cell asks a condition by what the facts say.
-pub(crate) fn does(code: u8, f: Facts) -> Met
-    ensures { λ r. ⌜ r ≡ metOf code f ⌝ }
+pub(crate) fn does(code: u8, f: Facts, congested: bool) -> Met
+    ensures { λ r. ⌜ r ≡ metOf code f congested ⌝ }
 {
     if code == cells::_____ {
         return Met::Illegal;
     }
+    if goes_on(code, f, congested) {
+        return gone_on(code);
+    }
     let Alternative(c, up) = chosen(code, f);
-    Met::Does(number((c % 64) as u8), up)
+    let n = number((c % 64) as u8);
+    Met::Does(n, n / FIRST, up)
 }

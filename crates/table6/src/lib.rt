@@ -6,7 +6,7 @@ pub mod rows;
 pub mod signals;
 
 ghost use mathlib.Core.Path.{_≡_};
-ghost use Rattle.table6.specs.Stored.{metAs, met, Sound, stateAfter};
+ghost use Rattle.table6.specs.Stored.{metAs, met, goesOn, Sound, stateAfter};
 
 // The states of Q.2140: S2103 is 2/10/3, and so on, in the order of document 01's codes.
 pub enum State {
@@ -39,15 +39,16 @@ pub struct Facts {
 // What an event meets.
 pub enum Met {
     Illegal,
-    // What it does to the link and its signals, as one number of effects.rt, and whether a connection comes up.
-    Does(u64, bool),
+    // What it does to the link, as a number of effects.rt, the words of its signals, and whether a connection comes up.
+    Does(u64, u64, bool),
 }
 
-// The cell of a row and a state under these facts. A row that the table doesn't have is Illegal.
-pub fn cell(row: u8, state: State, facts: Facts) -> Met
-    ensures { λ r. ⌜ (metAs row state r ≡ met row state facts) × Sound r ⌝ }
+// The cell of a row and a state under these facts, and where it leads to 2/10/3 on a congested link, congestion there behind it. A row that the table doesn't
+// have is Illegal.
+pub fn cell(row: u8, state: State, facts: Facts, congested: bool) -> Met
+    ensures { λ r. ⌜ (metAs row state r ≡ goesOn congested state (met row state facts)) × Sound r ⌝ }
 {
-    effects::does(cells::code_at(row, state), facts)
+    effects::does(cells::code_at(row, state), facts, congested)
 }
 
 // The state after the number of a cell.
