@@ -1,7 +1,8 @@
 -- What an event does by itself, and behind it what the number of its cell does, is the step. The code looks at the link as the event left it, and not as
 -- it was: of an event that alters the link by itself no cell asks for what it alters. Assumes nothing.
 use mathlib.Core.Path.{_≡_, refl, sym, ap, subst, _∙_}
-use mathlib.Core.Bool.{Bool, true, false, cond}
+use mathlib.Core.Bool.{Bool, true, false, cond, not, _&&_}
+use mathlib.Core.List.{_++_}
 use Prim.Native.Nat.{ℕ}
 use lib.Dec.{eqb}
 use Rattle.unit.specs.declared.Arrived.{Arrived}
@@ -10,8 +11,10 @@ use Rattle.unit.specs.declared.Ups.{Ups}
 use Rattle.table6.specs.declared.State.{State}
 use Rattle.table6.specs.declared.Facts.{Facts}
 use Rattle.table6.specs.declared.Met.{Met}
-use Rattle.table6.specs.Summary.{Op, keep, put, over, Count, same, decided, less, Summary, still, with-mps, with-ups, with-c1, with-bsnt, Summed, refused, summed}
-use Rattle.table6.specs.Stored.{stateOp, upsOp, arrival, behind, changed, met, metAs}
+use Rattle.table6.specs.Summary.{Op, keep, put, over, Count, same, decided, less, Summary, still, with-mps, with-ups, with-c1, with-bsnt, with-congested, summary, Summed, refused, summed}
+use Rattle.table6.specs.Order.{signals}
+use Rattle.table6.specs.Words.{2/4/2, is-2/10/3}
+use Rattle.table6.specs.Stored.{stateOp, upsOp, arrival, behind, changed, wordCount, met, givesUp, goesOn, metAs}
 use Rattle.table6.proofs.Unfolded.{every-row}
 use Rattle.table6.proofs.Stored.{eight, of-eight}
 use Rattle.link.specs.declared.Num.{Num}
@@ -23,15 +26,17 @@ use Rattle.link.specs.Effect.{with-state}
 use Rattle.link.specs.Effect as effect
 use Rattle.link.specs.Signal.{none}
 use Rattle.link.specs.Step.{Illegal, Legal, stepOf}
-use Rattle.link.specs.Stored.{bareView, viewOf, numberIn, meetingOf, factsOf, summedUp, arrivedOf, appliedOf, givenBy, signalsOf}
+use Rattle.link.specs.Stored.{bareView, viewOf, numberIn, meetingOf, factsOf, summedUp, arrivedOf, risenOf, appliedOf, givenBy, signalsOf}
 use Rattle.link.proofs.Performed.{outcomeOf, as-met}
 use Rattle.link.proofs.Carried.{leaving, carried}
 
 -- WHAT BECOMES OF THE LINK
 
--- a number behind what the event did by itself: as if both were one
+-- a number behind what the event did by itself, and a connection that comes up: as if all were one
 abbrev Behind : Summary → Bool → ℕ → ℕ → Num → Link → Type 0
-Behind a up n p num l = summedUp (changed a up n) p num l ≡ summedUp (changed still up n) p none (summedUp a p num l)
+Behind a up n p num l =
+    let k = summedUp a p num l in
+    summedUp (changed a up n) p num l ≡ summedUp (changed still false n) 0 none (cond up (risenOf p k) k)
 
 nothing : (up : Bool) (n p : ℕ) (num : Num) (l : Link) → Behind still up n p num l
 nothing true n p num l = refl
@@ -45,6 +50,10 @@ c1-less : (up : Bool) (n p : ℕ) (num : Num) (l : Link) → Behind (with-c1 (le
 c1-less true n p num l = refl
 c1-less false n p num l = refl
 
+flag-put : (b up : Bool) (n p : ℕ) (num : Num) (l : Link) → Behind (with-congested (put b) still) up n p num l
+flag-put b true n p num l = refl
+flag-put b false n p num l = refl
+
 -- where MPS or UPS is altered no connection comes up
 mps-forced : (x : Mps) {up : Bool} (n p : ℕ) (num : Num) (l : Link) → up ≡ false → Behind (with-mps (put x) still) up n p num l
 mps-forced x n p num l e = rw e refl
@@ -55,7 +64,7 @@ last-wins x (put y) u = refl
 
 ups-wished : (x : Ups) {up : Bool} (n p : ℕ) (num : Num) (l : Link) → up ≡ false → Behind (with-ups (put x) still) up n p num l
 ups-wished x n p num l e =
-    rw e (ap (λ (u : Ups). effect.with-ups u (summedUp (changed still false n) p none (summedUp (with-ups (put x) still) p num l))) (last-wins x (upsOp n) (l .ups)))
+    rw e (ap (λ (u : Ups). effect.with-ups u (summedUp (changed still false n) 0 none (summedUp (with-ups (put x) still) p num l))) (last-wins x (upsOp n) (l .ups)))
 
 -- WHAT A CELL DECIDES
 
@@ -76,9 +85,17 @@ not-up false e = refl
 abbrev Undecided : ℕ → Type 0
 Undecided row = (f : Facts) → eight (λ s. countOf (met row s f)) ≡ eight (λ s. same)
 
-down : (row : ℕ) (s : State) (f : Facts) (up : Bool) (n : ℕ) → Undecided row → arrival row .c1 ≡ same → metAs row s (Met.Does n up) ≡ met row s f → up ≡ false
-down row s f up n u a e =
-    not-up up (ap (cond up decided) (sym a) ∙ ap countOf e ∙ of-eight (λ s. countOf (met row s f)) (λ s. same) (u f) s)
+-- what goes on decides nothing more
+still-counted : (b : Bool) (s : State) (x : Summed) → countOf (goesOn b s x) ≡ countOf x
+still-counted b s refused = refl
+still-counted b s (summed y says next) = by (not (is-2/10/3 s) && (is-2/10/3 next && over (y .congested) b)) where
+  by : (z : Bool) → countOf (cond z (summed (summary givesUp y) (says ++ signals givesUp) 2/4/2) (summed y says next)) ≡ y .c1
+  by true = refl
+  by false = refl
+
+pub down : (row : ℕ) (s : State) (f : Facts) (b up : Bool) (n ws : ℕ) → Undecided row → arrival row .c1 ≡ same → metAs row s (Met.Does n ws up) ≡ goesOn b s (met row s f) → up ≡ false
+down row s f b up n ws u a e =
+    not-up up (ap (cond up decided) (sym a) ∙ ap countOf e ∙ still-counted b s (met row s f) ∙ of-eight (λ s. countOf (met row s f)) (λ s. same) (u f) s)
 
 undecided-1 : Undecided 1
 unfolding met every-row
@@ -99,6 +116,14 @@ undecided-27 f = refl
 undecided-28 : Undecided 28
 unfolding met every-row
 undecided-28 f = refl
+
+pub undecided-29 : Undecided 29
+unfolding met every-row
+undecided-29 f = refl
+
+pub undecided-30 : Undecided 30
+unfolding met every-row
+undecided-30 f = refl
 
 -- THE STEP
 
@@ -169,68 +194,79 @@ same-facts event.T1 l = refl
 same-facts event.T2 l = refl
 same-facts event.T3 l = t3-facts (eqb (l .c1) 0) l
 
-abbrev Met-so : Link → View → ℕ → Bool → Type 0
-Met-so l v n up = metAs (v .0) (l .state) (Met.Does n up) ≡ met (v .0) (l .state) (factsOf (arrivedOf v l) v)
+-- what was met of a link and a view: a number, its words, and whether a connection comes up
+abbrev pub Met-so : Link → View → ℕ → ℕ → Bool → Type 0
+Met-so l v n ws up = metAs (v .0) (l .state) (Met.Does n ws up) ≡ goesOn (l .congested) (l .state) (met (v .0) (l .state) (factsOf (arrivedOf v l) v))
 
 t3-joined : (b : Bool) (l : Link) (n : ℕ) (up : Bool) → Behind (arrival (cond b 34 33)) up n 0 none l
 t3-joined true l n up = nothing up n 0 none l
 t3-joined false l n up = c1-less up n 0 none l
 
-joined : (e : Event) (l : Link) (n : ℕ) (up : Bool) → Met-so l (viewOf e (l .c1)) n up → let v = viewOf e (l .c1) in Behind (arrival (v .0)) up n (v .1) (v .2) l
-joined event.Message l n up h = nothing up n 0 none l
-joined event.Emergency l n up h = ups-wished Ups.Emergency n 0 none l (down 1 (l .state) _ up n undecided-1 refl h)
-joined event.EmergencyCeases l n up h = ups-wished Ups.Normal n 0 none l (down 2 (l .state) _ up n undecided-2 refl h)
-joined event.Stop l n up h = nothing up n 0 none l
-joined event.Start l n up h = nothing up n 0 none l
-joined event.RetrieveBsnt l n up h = nothing up n 0 none l
-joined (event.Retrieval n) l k up h = nothing up k 0 n l
-joined event.FlushBuffers l n up h = nothing up n 0 none l
-joined event.Continue l n up h = nothing up n 0 none l
-joined (event.EstablishIndication p) l n up h = nothing up n p none l
-joined (event.EstablishConfirm p) l n up h = nothing up n p none l
-joined (event.ReleaseIndication f s) l n up h = nothing up n f none l
-joined event.ReleaseConfirm l n up h = nothing up n 0 none l
-joined (event.Data Arrived.INS n) l k up h = bsnt-taken up k 0 n l
-joined (event.Data Arrived.NM n) l k up h = bsnt-taken up k 0 n l
-joined (event.Data (Arrived.Other status) n) l k up h = bsnt-taken up k 0 n l
-joined (event.Data Arrived.Short n) l k up h = bsnt-taken up k 0 n l
-joined (event.Data Arrived.Long n) l k up h = bsnt-taken up k 0 n l
-joined event.Resync l n up h = nothing up n 0 none l
-joined event.Recover l n up h = nothing up n 0 none l
-joined event.UnitData l n up h = nothing up n 0 none l
-joined (event.Retrieve k) l n up h = nothing up n 0 none l
-joined event.RetrieveComplete l n up h = nothing up n 0 none l
-joined event.ProvingUnsuccessful l n up h = nothing up n 0 none l
-joined event.Release l n up h = nothing up n 0 none l
-joined event.Outage l n up h = nothing up n 0 none l
-joined event.Recovered l n up h = nothing up n 0 none l
-joined event.ForceProving l n up h = mps-forced Mps.Normal n 0 none l (down 26 (l .state) _ up n undecided-26 refl h)
-joined event.ForceEmergency l n up h = mps-forced Mps.Emergency n 0 none l (down 27 (l .state) _ up n undecided-27 refl h)
-joined event.ClearForceModes l n up h = mps-forced Mps.Neutral n 0 none l (down 28 (l .state) _ up n undecided-28 refl h)
-joined (event.Congestion p) l n up h = nothing up n p none l
-joined event.CongestionCeased l n up h = nothing up n 0 none l
-joined event.T1 l n up h = nothing up n 0 none l
-joined event.T2 l n up h = nothing up n 0 none l
-joined event.T3 l n up h = t3-joined (eqb (l .c1) 0) l n up
+joined : (e : Event) (l : Link) (n ws : ℕ) (up : Bool) → Met-so l (viewOf e (l .c1)) n ws up → let v = viewOf e (l .c1) in Behind (arrival (v .0)) up n (v .1) (v .2) l
+joined event.Message l n ws up h = nothing up n 0 none l
+joined event.Emergency l n ws up h = ups-wished Ups.Emergency n 0 none l (down 1 (l .state) _ (l .congested) up n ws undecided-1 refl h)
+joined event.EmergencyCeases l n ws up h = ups-wished Ups.Normal n 0 none l (down 2 (l .state) _ (l .congested) up n ws undecided-2 refl h)
+joined event.Stop l n ws up h = nothing up n 0 none l
+joined event.Start l n ws up h = nothing up n 0 none l
+joined event.RetrieveBsnt l n ws up h = nothing up n 0 none l
+joined (event.Retrieval n) l k ws up h = nothing up k 0 n l
+joined event.FlushBuffers l n ws up h = nothing up n 0 none l
+joined event.Continue l n ws up h = nothing up n 0 none l
+joined (event.EstablishIndication p) l n ws up h = nothing up n p none l
+joined (event.EstablishConfirm p) l n ws up h = nothing up n p none l
+joined (event.ReleaseIndication f s) l n ws up h = nothing up n f none l
+joined event.ReleaseConfirm l n ws up h = nothing up n 0 none l
+joined (event.Data Arrived.INS n) l k ws up h = bsnt-taken up k 0 n l
+joined (event.Data Arrived.NM n) l k ws up h = bsnt-taken up k 0 n l
+joined (event.Data (Arrived.Other status) n) l k ws up h = bsnt-taken up k 0 n l
+joined (event.Data Arrived.Short n) l k ws up h = bsnt-taken up k 0 n l
+joined (event.Data Arrived.Long n) l k ws up h = bsnt-taken up k 0 n l
+joined event.Resync l n ws up h = nothing up n 0 none l
+joined event.Recover l n ws up h = nothing up n 0 none l
+joined event.UnitData l n ws up h = nothing up n 0 none l
+joined (event.Retrieve k) l n ws up h = nothing up n 0 none l
+joined event.RetrieveComplete l n ws up h = nothing up n 0 none l
+joined event.ProvingUnsuccessful l n ws up h = nothing up n 0 none l
+joined event.Release l n ws up h = nothing up n 0 none l
+joined event.Outage l n ws up h = nothing up n 0 none l
+joined event.Recovered l n ws up h = nothing up n 0 none l
+joined event.ForceProving l n ws up h = mps-forced Mps.Normal n 0 none l (down 26 (l .state) _ (l .congested) up n ws undecided-26 refl h)
+joined event.ForceEmergency l n ws up h = mps-forced Mps.Emergency n 0 none l (down 27 (l .state) _ (l .congested) up n ws undecided-27 refl h)
+joined event.ClearForceModes l n ws up h = mps-forced Mps.Neutral n 0 none l (down 28 (l .state) _ (l .congested) up n ws undecided-28 refl h)
+joined (event.Congestion p) l n ws up h = flag-put true up n p none l
+joined event.CongestionCeased l n ws up h = flag-put false up n 0 none l
+joined event.T1 l n ws up h = nothing up n 0 none l
+joined event.T2 l n ws up h = nothing up n 0 none l
+joined event.T3 l n ws up h = t3-joined (eqb (l .c1) 0) l n up
 
-as-one : (l : Link) (v : View) (n : ℕ) (up : Bool) → Behind (arrival (v .0)) up n (v .1) (v .2) l →
-    let k = appliedOf n up (v .1) (arrivedOf v l) in
-    Legal k (signalsOf n (givenBy (v .1) (numberIn v) k)) ≡ leaving l (meetingOf v) (numberIn v) (metAs (v .0) (l .state) (Met.Does n up))
+-- the record that a step leaves
+abbrev pub leftOf : Link → View → ℕ → Bool → Link
+leftOf l v n up = let a = arrivedOf v l in appliedOf n (cond up (risenOf (v .1) a) a)
+
+same-state : (up : Bool) (p : ℕ) (a : Link) → cond up (risenOf p a) a .state ≡ a .state
+same-state true p a = refl
+same-state false p a = refl
+
+as-one : (l : Link) (v : View) (n ws : ℕ) (up : Bool) → Behind (arrival (v .0)) up n (v .1) (v .2) l →
+    Legal (leftOf l v n up) (signalsOf (wordCount n) ws (givenBy (v .1) (numberIn v) (leftOf l v n up))) ≡ leaving l (meetingOf v) (numberIn v) (metAs (v .0) (l .state) (Met.Does n ws up))
 unfolding signalsOf
-as-one l v n up j = ap (λ (k : Link). Legal (with-state (over (stateOp n) (l .state)) k) (signalsOf n (givenBy (v .1) (numberIn v) k))) (sym j)
+as-one l v n ws up j =
+    let m : State → Link → Link = λ x k. with-state (over (stateOp n) x) k in
+    let a = arrivedOf v l in
+    let k : leftOf l v n up ≡ m (l .state) (summedUp (changed (arrival (v .0)) up n) (v .1) (v .2) l) = λ i. m (same-state up (v .1) a i) (sym j i) in
+    ap (λ (z : Link). Legal z (signalsOf (wordCount n) ws (givenBy (v .1) (numberIn v) z))) k
 
 -- what was met of an event, with its signals by the link that is left
-pub acted : (l : Link) (e : Event) (n : ℕ) (up : Bool) →
+pub acted : (l : Link) (e : Event) (n ws : ℕ) (up : Bool) →
     let v = viewOf e (l .c1) in
-    let k = appliedOf n up (v .1) (arrivedOf v l) in
-    Met-so l v n up → Legal k (signalsOf n (givenBy (v .1) (numberIn v) k)) ≡ stepOf l e
-acted l e n up h =
+    Met-so l v n ws up → Legal (leftOf l v n up) (signalsOf (wordCount n) ws (givenBy (v .1) (numberIn v) (leftOf l v n up))) ≡ stepOf l e
+acted l e n ws up h =
     let v = viewOf e (l .c1) in
-    as-one l v n up (joined e l n up h) ∙ ap (leaving l (meetingOf v) (numberIn v)) (h ∙ same-facts e l) ∙ carried l v ∙ as-met l e
+    as-one l v n ws up (joined e l n ws up h) ∙ ap (leaving l (meetingOf v) (numberIn v)) (h ∙ ap (goesOn (l .congested) (l .state)) (same-facts e l)) ∙ carried l v ∙ as-met l e
 
 pub turned-down : (l : Link) (e : Event) →
     let v = viewOf e (l .c1) in
-    refused ≡ met (v .0) (l .state) (factsOf (arrivedOf v l) v) → Illegal ≡ stepOf l e
+    refused ≡ goesOn (l .congested) (l .state) (met (v .0) (l .state) (factsOf (arrivedOf v l) v)) → Illegal ≡ stepOf l e
 turned-down l e h =
     let v = viewOf e (l .c1) in
-    ap (outcomeOf l (meetingOf v)) (h ∙ same-facts e l) ∙ as-met l e
+    ap (outcomeOf l (meetingOf v)) (h ∙ ap (goesOn (l .congested) (l .state)) (same-facts e l)) ∙ as-met l e

@@ -1,7 +1,7 @@
 -- What signals carry may be taken from the link that a step leaves, and their number from the event's octets: no cell alters what its signals take, and none of a
 -- release takes a number. Assumes nothing.
 use mathlib.Core.Path.{_≡_, refl, sym, ap, _∙_}
-use mathlib.Core.Bool.{Bool, true, false, cond, _&&_, _||_, true≢false}
+use mathlib.Core.Bool.{Bool, true, false, cond, not, _&&_, _||_, true≢false}
 use mathlib.Core.List.{List, [], _∷_, _++_, map}
 use Prim.Native.Nat.{ℕ}
 use lib.Dec.{eqb, ltb}
@@ -17,7 +17,8 @@ use Rattle.table6.specs.Order.{signals}
 use Rattle.table6.specs.Rows.{Heading, rows, nowhere, heading}
 use Rattle.table6.specs.Summary.{Op, keep, put, over, Summary, still, summary, Summed, refused, summed, sum}
 use Rattle.table6.specs.Every.{Test, behind-each}
-use Rattle.table6.specs.Stored.{met}
+use Rattle.table6.specs.Stored.{met, givesUp, goesOn}
+use Rattle.table6.specs.Words.{2/4/2, is-2/10/3}
 use Rattle.table6.proofs.Lists.{alike, past}
 use Rattle.table6.proofs.Unfolded.{every-row}
 use Rattle.table6.proofs.Stored.{eight, of-eight}
@@ -31,7 +32,7 @@ use Rattle.link.specs.Effect.{with-state}
 use Rattle.link.specs.Signal.{num, signalOf}
 use Rattle.link.specs.Step.{Meeting, Outcome, Illegal, Legal}
 use Rattle.link.specs.Stored.{numberIn, meetingOf, factsOf, held, summedUp}
-use Rattle.link.proofs.Performed.{outcomeOf, choiceOf}
+use Rattle.link.proofs.Performed.{outcomeOf, map-append, choiceOf}
 
 -- an outcome from a summed-up cell whose signals carry this number, and what the link that is left has
 abbrev pub leaving : Link → Meeting → Num → Summed → Outcome
@@ -155,8 +156,31 @@ in-octets true l m row c f e =
 in-octets false l m row c f e = refl
 
 -- BOTH, of what the facts choose in the cell that a view meets
-pub carried : (l : Link) (v : View) → leaving l (meetingOf v) (numberIn v) (met (v .0) (l .state) (factsOf l v)) ≡ outcomeOf l (meetingOf v) (met (v .0) (l .state) (factsOf l v))
+of-cell : (l : Link) (v : View) → leaving l (meetingOf v) (numberIn v) (met (v .0) (l .state) (factsOf l v)) ≡ outcomeOf l (meetingOf v) (met (v .0) (l .state) (factsOf l v))
 unfolding met
-carried l v =
+of-cell l v =
     in-octets (eqb (v .0) 11) l (meetingOf v) (v .0) (v .3) (factsOf l v) refl
     ∙ from-left l (meetingOf v) (heading (v .0) .arrives) (choiceOf l v) (λ acts. quiet (ltb (v .0) 35) (v .0) acts refl) (of-heading takes-unaltered arriving each-cell (v .0) (l .state) (factsOf l v))
+
+-- and of what goes on with congestion, whose own signals take nothing
+abbrev signalsIn : Outcome → List Signal
+signalsIn Illegal = []
+signalsIn (Legal next said) = said
+
+goes-on : (b : Bool) (l : Link) (m : Meeting) (n : Num) (x : Summed) → leaving l m n x ≡ outcomeOf l m x → leaving l m n (goesOn b (l .state) x) ≡ outcomeOf l m (goesOn b (l .state) x)
+goes-on b l m n refused h = h
+goes-on b l m n (summed s says next) h = by (not (is-2/10/3 (l .state)) && (is-2/10/3 next && over (s .congested) b)) where
+  k : Link
+  k = summedUp s (m .param) (m .number) l
+
+  by : (z : Bool) → let x = cond z (summed (summary givesUp s) (says ++ signals givesUp) 2/4/2) (summed s says next) in leaving l m n x ≡ outcomeOf l m x
+  by false = h
+  by true =
+      ap (Legal (with-state 2/4/2 (summedUp (summary givesUp s) (m .param) (m .number) l)))
+      (map-append (signalOf (m .param) n (k .mps) (k .ups) (k .bsnt .num)) says (signals givesUp)
+      ∙ ap (λ (first : List Signal). first ++ map (signalOf (m .param) n (k .mps) (k .ups) (k .bsnt .num)) (signals givesUp)) (ap signalsIn h)
+      ∙ sym (map-append (signalOf (m .param) (m .number) (l .mps) (l .ups) (l .bsnt .num)) says (signals givesUp)))
+
+pub carried : (l : Link) (v : View) →
+    let x = goesOn (l .congested) (l .state) (met (v .0) (l .state) (factsOf l v)) in leaving l (meetingOf v) (numberIn v) x ≡ outcomeOf l (meetingOf v) x
+carried l v = goes-on (l .congested) l (meetingOf v) (numberIn v) (met (v .0) (l .state) (factsOf l v)) (of-cell l v)

@@ -92,29 +92,29 @@ thousand-and-one l p h o =
 abbrev decided : ℕ → Link → Link
 decided field l = up l field (proving l)
 
-confirm : (l : Link) (field : ℕ) → named field ≡ true →
+confirm : (l : Link) (field : ℕ) → l .congested ≡ false → named field ≡ true →
     stepOf (with-state 2/2/2 l) (event.EstablishConfirm field) ≡ Legal (decided field l) (bare START-PROVING ∷ bare SET-T3 ∷ [])
 unfolding stepOf AA-ESTABLISH-confirm-with-EM-NM
-confirm l field u = rw u
+confirm l field c u = rw (u, c)
 
-indicate : (l : Link) (field : ℕ) → named field ≡ true →
+indicate : (l : Link) (field : ℕ) → l .congested ≡ false → named field ≡ true →
     stepOf (with-state 2/1/2 l) (event.EstablishIndication field)
     ≡ Legal (with-timer T1 false (decided field l)) (signal ESTABLISH-response (code (table8 (l .mps) (l .ups))) none Carries.Nothing ∷ bare START-PROVING ∷ bare RESET-T1 ∷ bare SET-T3 ∷ [])
 unfolding stepOf AA-ESTABLISH-indication-with-EM-NM
-indicate l field u = rw u
+indicate l field c u = rw (u, c)
 
 pub confirmed : Confirmed
-confirmed l field s u d = (
+confirmed l field s c u d = (
   decided field l,
   _,
-  ap (λ (x : State). stepOf (with-state x l) (event.EstablishConfirm field)) s ∙ confirm l field u,
+  ap (λ (x : State). stepOf (with-state x l) (event.EstablishConfirm field)) s ∙ confirm l field c u,
   record { state = refl; running = refl; decided = d },
 )
 
 pub indicated : Indicated
-indicated l field s u d = (
+indicated l field s c u d = (
   with-timer T1 false (decided field l),
   _,
-  ap (λ (x : State). stepOf (with-state x l) (event.EstablishIndication field)) s ∙ indicate l field u,
+  ap (λ (x : State). stepOf (with-state x l) (event.EstablishIndication field)) s ∙ indicate l field c u,
   record { state = refl; running = refl; decided = d },
 )

@@ -8,8 +8,8 @@ use Rattle.link.specs.declared.Event.{Event}
 use Rattle.link.specs.declared.Signal.{Signal}
 use Rattle.link.specs.declared.Reply.{Reply}
 use Rattle.link.specs.Step.{Outcome, Illegal, Legal}
-use Rattle.link.specs.Stored.{viewOf, numberIn, givenBy, signalsOf}
-use Rattle.link.specs.Lent.{replied, Turned}
+use Rattle.link.specs.Stored.{viewOf, numberIn, Noted, givenBy, signalsOf}
+use Rattle.link.specs.Lent.{replied, Notes, Turned}
 
 abbrev IsAccepted : Answered (List Signal) → Type 0
 IsAccepted (refused n) = ⊥
@@ -27,8 +27,12 @@ module _ (l : Link) (x : Event) (k : Link) where
   was-illegal Illegal e t = refl
   was-illegal (Legal next ss) e t = absurd (subst IsAccepted (sym (t .said) ∙ ap stands e) tt)
 
-  pub was-legal : (o : Outcome) {r : Reply} {n : ℕ} → r ≡ Reply.Legal n → Turned l x o k r → let v = viewOf x (l .c1) in o ≡ Legal k (signalsOf n (givenBy (v .1) (numberIn v) k))
+  pub was-legal : (o : Outcome) {r : Reply} {words count noted sent : ℕ} → r ≡ Reply.Legal words count noted sent → Turned l x o k r →
+      let v = viewOf x (l .c1) in o ≡ Legal k (signalsOf count words (givenBy (v .1) (numberIn v) k))
   was-legal Illegal e t = absurd (subst IsAccepted (ap stands (sym e) ∙ t .said) tt)
   was-legal (Legal next ss) e t =
       let same = ap signals (sym (t .said) ∙ ap stands e) in
       λ i. Legal (sym (t .left) i) (same i)
+
+  pub was-noted : {o : Outcome} {r : Reply} {words count noted sent : ℕ} → r ≡ Reply.Legal words count noted sent → Turned l x o k r → Noted l (numberIn (viewOf x (l .c1))) k noted sent
+  was-noted e t = subst (Notes l (viewOf x (l .c1)) k) e (t .notes)

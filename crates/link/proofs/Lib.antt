@@ -3,6 +3,7 @@ pub mod Carried
 pub mod Expiries
 pub mod Kept
 pub mod Lent
+pub mod Noting
 pub mod OneAnswer
 pub mod Performed
 pub mod Spoken

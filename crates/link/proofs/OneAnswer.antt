@@ -22,8 +22,8 @@ use Rattle.link.proofs.step.Reads as step
 use Rattle.link.proofs.step_lent as step-lent
 use Rattle.link.proofs.step_plain.Kinds as step-plain-kinds
 use Rattle.link.proofs.step_plain.Reads as step-plain
-use Rattle.link.proofs.count.Kinds as count-kinds
-use Rattle.link.proofs.count.Reads as count
+use Rattle.link.proofs.field_sent.Kinds as field-sent-kinds
+use Rattle.link.proofs.field_sent.Reads as field-sent
 
 pub fresh-one : OneAnswer fresh-kinds.ps fresh-kinds.r fresh.Post
 fresh-one κs arguments x y e f = equal
@@ -50,5 +50,5 @@ step-lent-one M 𝓤 H A mem run κs a g r s e f =
 pub step-plain-one : OneReading step-plain-kinds.ps step-plain-kinds.r Both (λ κs arguments x e. both (arguments .0) (arguments .1 .0) (x .link) (x .reply)) step-plain.Post
 step-plain-one κs arguments x y e f = one-turn
 
-pub count-one : OneAnswer count-kinds.ps count-kinds.r count.Post
-count-one κs arguments x y e f = equal
+pub field-sent-one : OneAnswer field-sent-kinds.ps field-sent-kinds.r field-sent.Post
+field-sent-one κs arguments x y e f = equal

@@ -1,24 +1,29 @@
 -- The step is Table 6 performed: a summary does what its actions do, one by one, and a view shows the meeting that the event is. Assumes nothing.
 use mathlib.Core.Path.{_≡_, refl, sym, ap, subst, _∙_}
-use mathlib.Core.Bool.{Bool, true, false, cond}
+use mathlib.Core.Bool.{Bool, true, false, cond, not, _&&_, false≢true}
 use mathlib.Core.List.{List, [], _∷_, _++_, map}
 use Prim.Native.Nat.{ℕ}
 use lib.Dec.{eqb}
 use Rattle.unit.specs.declared.Arrived.{Arrived}
+use Rattle.table6.specs.declared.State.{State}
 use Rattle.table6.specs.declared.Facts.{Facts}
+use Rattle.table6.specs.Words.{2/4/2, 2/10/3, is-2/10/3}
 use Rattle.table6.specs.Cell.{T1, T2, T3, Told, Done, Act, tell, alter, cell, Choice, illegal, does, chosen}
 use Rattle.table6.specs.Order.{signals}
-use Rattle.table6.specs.Summary.{Summary, still, then-told, then-done, then, summary, Summed, refused, summed, sum}
-use Rattle.table6.specs.Rows.{Heading, heading, printed}
-use Rattle.table6.specs.Stored.{met}
+use Rattle.table6.specs.Summary.{over, Summary, still, then-told, then-done, then, summary, Summed, refused, summed, sum}
+use Rattle.table6.specs.Rows.{Heading, Local-Congestion, heading, printed}
+use Rattle.table6.specs.Stored.{met, givesUp, goesOn}
+use Rattle.table6.proofs.Unfolded.{every-row}
+use Rattle.table6.proofs.Every.{left, right}
 use Rattle.link.specs.declared.Num.{Num}
 use Rattle.link.specs.declared.Link.{Link}
 use Rattle.link.specs.declared.Event.{Event}
 use Rattle.link.specs.declared.Event.the-variants as event
 use Rattle.link.specs.declared.View.{View}
-use Rattle.link.specs.Effect.{with-state, telling, altering, effect, performed}
+use Rattle.link.specs.declared.Signal.{Signal}
+use Rattle.link.specs.Effect.{with-state, with-congested, telling, altering, effect, performed}
 use Rattle.link.specs.Signal.{signalOf}
-use Rattle.link.specs.Step.{Meeting, meets, meeting, facts, Outcome, Illegal, Legal, outcome, at-meeting, stepOf}
+use Rattle.link.specs.Step.{Meeting, meets, meeting, facts, Outcome, Illegal, Legal, outcome, at-meeting, behind-these, onward, stepOf}
 use Rattle.link.specs.Stored.{viewOf, meetingOf, factsOf, summedUp}
 
 -- SUMMARIES
@@ -67,6 +72,7 @@ one-done Done.take-BSNT s p n l = refl
 one-done (Done.end T1) s p n l = refl
 one-done (Done.end T2) s p n l = refl
 one-done (Done.end T3) s p n l = refl
+one-done (Done.congested b) s p n l = refl
 
 one-act : (a : Act) (s : Summary) (p : ℕ) (n : Num) (l : Link) → effect a p n l (summedUp s p n l) ≡ summedUp (then a s) p n l
 one-act (tell a) s p n l = one-told a s p n l
@@ -137,19 +143,66 @@ met-there : (l : Link) (v : View) → outcomeOf l (meetingOf v) (met (v .0) (l .
 unfolding met
 met-there l v = as-performed l (meetingOf v) (chosen (facts l (meetingOf v)) (cell (printed (facts l (meetingOf v)) (heading (v .0) .row)) (l .state)))
 
+-- CONGESTION BEHIND IT
+
+pub map-append : {A B : Type 0} (f : A → B) (xs ys : List A) → map f (xs ++ ys) ≡ map f xs ++ map f ys
+map-append f [] ys = refl
+map-append f (x ∷ xs) ys = ap (f x ∷_) (map-append f xs ys)
+
+-- In 2/10/3 congestion does what `givesUp` says, and its signals take nothing: the flag was set already.
+gives-up : (s : Summary) (p : ℕ) (n : Num) (l : Link) → over (s .congested) (l .congested) ≡ true →
+    at-meeting (with-state 2/10/3 (summedUp s p n l)) (meets Local-Congestion)
+    ≡ Legal (with-state 2/4/2 (summedUp (summary givesUp s) p n l)) (map (signalOf p n (l .mps) (l .ups) (l .bsnt .num)) (signals givesUp))
+unfolding every-row
+gives-up s p n l e =
+    ap (λ (b : Bool). Legal (with-congested b (with-state 2/4/2 (summedUp (summary givesUp s) p n l))) (map (signalOf p n (l .mps) (l .ups) (l .bsnt .num)) (signals givesUp))) (sym e)
+
+is-so : (x : State) → is-2/10/3 x ≡ true → x ≡ 2/10/3
+is-so State.S111 e = absurd (false≢true e)
+is-so State.S141 e = absurd (false≢true e)
+is-so State.S212 e = absurd (false≢true e)
+is-so State.S222 e = absurd (false≢true e)
+is-so State.S242 e = absurd (false≢true e)
+is-so State.S2103 e = refl
+is-so State.S2104 e = absurd (false≢true e)
+is-so State.S3105 e = absurd (false≢true e)
+
+-- what goes on does so in its summary
+pub onward-summed : (l : Link) (m : Meeting) (x : Summed) → onward l (outcomeOf l m x) ≡ outcomeOf l m (goesOn (l .congested) (l .state) x)
+onward-summed l m refused = refl
+onward-summed l m (summed s says next) =
+    by (not (is-2/10/3 (l .state)) && (is-2/10/3 next && over (s .congested) (l .congested))) refl where
+      tell-all : Told → Signal
+      tell-all = signalOf (m .param) (m .number) (l .mps) (l .ups) (l .bsnt .num)
+
+      left-there : State → Link
+      left-there x = with-state x (summedUp s (m .param) (m .number) l)
+
+      by : (z : Bool) → not (is-2/10/3 (l .state)) && (is-2/10/3 next && over (s .congested) (l .congested)) ≡ z →
+          cond z (behind-these (map tell-all says) (at-meeting (left-there next) (meets Local-Congestion))) (Legal (left-there next) (map tell-all says))
+          ≡ outcomeOf l m (cond z (summed (summary givesUp s) (says ++ signals givesUp) 2/4/2) (summed s says next))
+      by false e = refl
+      by true e =
+          let t : is-2/10/3 next && over (s .congested) (l .congested) ≡ true = right (not (is-2/10/3 (l .state))) _ e in
+          ap (λ (x : State). behind-these (map tell-all says) (at-meeting (left-there x) (meets Local-Congestion))) (is-so next (left (is-2/10/3 next) _ t))
+          ∙ ap (behind-these (map tell-all says)) (gives-up s (m .param) (m .number) l (right (is-2/10/3 next) _ t))
+          ∙ ap (Legal (with-state 2/4/2 (summedUp (summary givesUp s) (m .param) (m .number) l))) (sym (map-append tell-all says (signals givesUp)))
+
 -- what an event does, from the summed-up cell that its view meets
 pub as-met : (l : Link) (e : Event) →
-    outcomeOf l (meetingOf (viewOf e (l .c1))) (met (viewOf e (l .c1) .0) (l .state) (factsOf l (viewOf e (l .c1)))) ≡ stepOf l e
+    outcomeOf l (meetingOf (viewOf e (l .c1))) (goesOn (l .congested) (l .state) (met (viewOf e (l .c1) .0) (l .state) (factsOf l (viewOf e (l .c1))))) ≡ stepOf l e
 unfolding stepOf
-as-met l e = met-there l (viewOf e (l .c1)) ∙ ap (at-meeting l) (shown e (l .c1))
+as-met l e =
+    let v = viewOf e (l .c1) in
+    sym (onward-summed l (meetingOf v) (met (v .0) (l .state) (factsOf l v))) ∙ ap (onward l) (met-there l v ∙ ap (at-meeting l) (shown e (l .c1)))
 
 -- what the facts choose in the cell that a view meets
 abbrev pub choiceOf : Link → View → Choice
 choiceOf l v = chosen (factsOf l v) (cell (printed (factsOf l v) (heading (v .0) .row)) (l .state))
 
--- what holds of that choice, summed up, holds of the step
+-- what holds of that choice, summed up, and of what it goes on with, holds of the step
 pub by-choice : (P : Outcome → Type 0) (l : Link) (e : Event) →
     let v = viewOf e (l .c1) in
-    P (outcomeOf l (meetingOf v) (sum (heading (v .0) .arrives) (choiceOf l v))) → P (stepOf l e)
+    P (outcomeOf l (meetingOf v) (goesOn (l .congested) (l .state) (sum (heading (v .0) .arrives) (choiceOf l v)))) → P (stepOf l e)
 unfolding met
 by-choice P l e p = subst P (as-met l e) p

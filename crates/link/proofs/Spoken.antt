@@ -3,7 +3,7 @@ use mathlib.Core.Path.{_≡_, refl, ap, _∙_}
 use mathlib.Core.List.{List, [], _∷_, map}
 use Prim.Native.Nat.{ℕ, zero, suc, _/_, _^_}
 use lib.ListN.{length}
-use Rattle.table6.specs.Stored.{wordAt, wordCount, lowest, said}
+use Rattle.table6.specs.Stored.{wordAt, lowest, said}
 use Rattle.link.specs.Stored.{Given, meantBy, signalsOf}
 
 length-lowest : (n r : ℕ) → length (lowest n r) ≡ n
@@ -14,9 +14,7 @@ pub length-map {ℓ κ} : {A : Type ℓ} {B : Type κ} (f : A → B) (xs : List 
 length-map f [] = refl
 length-map f (x ∷ xs) = ap suc (length-map f xs)
 
-pub counted : (words : ℕ) → length (said words) ≡ wordCount words
-counted words = length-map wordAt (lowest (wordCount words) (words / 2 ^ 24)) ∙ length-lowest (wordCount words) (words / 2 ^ 24)
-
-pub as-many : (words : ℕ) (o : Given) → length (signalsOf words o) ≡ length (said words)
+-- a step says as many signals as it counts
+pub as-many : (count words : ℕ) (o : Given) → length (signalsOf count words o) ≡ count
 unfolding signalsOf
-as-many words o = length-map (meantBy o) (said words)
+as-many count words o = length-map (meantBy o) (said count words) ∙ length-map wordAt (lowest count words) ∙ length-lowest count words

@@ -40,10 +40,10 @@ pub record ToProve (l : Link) : Type 0 where
   pub running : l .t3 ≡ true
   pub decided : l .c1 ≡ l .n1
 
--- That is so where a connection comes up in a state by an event whose field is EM or NM and for which Table 7 generates n1.
+-- That is so where a connection comes up on a link that is not congested, in a state by an event whose field is EM or NM and for which Table 7 generates n1.
 abbrev pub ComesUp : State → (ℕ → Event) → Type 0
 ComesUp s e =
-    (l : Link) (field : ℕ) → l .state ≡ s → named field ≡ true → generated l field ≡ l .n1 →
+    (l : Link) (field : ℕ) → l .state ≡ s → l .congested ≡ false → named field ≡ true → generated l field ≡ l .n1 →
     (after : Link) × (said : List Signal) × (stepOf l (e field) ≡ Legal after said) × ToProve after
 
 abbrev pub Confirmed : Type 0

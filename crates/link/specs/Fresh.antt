@@ -1,4 +1,5 @@
--- A link before its first event (document 01): state 1/1/1, LPO 0, UPS Normal, MPS Neutral, the INS flag 0. No timer runs, no BSNT is known, C1 is 0.
+-- A link before its first event (document 01): state 1/1/1, LPO 0, UPS Normal, MPS Neutral, the INS flag 0. No timer runs, no BSNT is known, C1 is 0. It is not
+-- congested, and no release was sent (2026-07).
 use Prim.Native.Nat.{ℕ}
 use mathlib.Core.Bool.{false}
 use Rattle.unit.specs.declared.Mps.{Mps}
@@ -21,4 +22,6 @@ freshLink n1 =
       bsnt = not-retrievable;
       c1 = 0;
       n1 = n1;
+      congested = false;
+      last = 0;
     }

@@ -1,11 +1,12 @@
--- What every step keeps, whatever the record and the event: n1, a C1 that is at most n1, and a BSNT of 0 where none is known; how many signals there are
--- at most, that at most one of them carries the event's message, and at most one anything that the event or the link brings.
+-- What every step keeps, whatever the record and the event: n1, a C1 that is at most n1, a BSNT of 0 where none is known, and a last field that is 0 or a status
+-- code; how many signals there are at most, that at most one of them carries the event's message, and at most one anything that the event or the link brings.
 use Prim.Native.Nat.{ℕ, _+_, _≤_}
 use mathlib.Core.Path.{_≡_}
-use mathlib.Core.Bool.{Bool, cond, _&&_, _||_}
+use mathlib.Core.Bool.{Bool, true, cond, _&&_, _||_}
 use mathlib.Core.List.{List, [], _∷_}
 use lib.Dec.{eqb}
 use lib.ListN.{length}
+use Rattle.unit.specs.Unit.{noneOrStatus}
 use Rattle.table6.specs.Words.{SSCOP-UU, third}
 use Rattle.table6.specs.SignalCodes.{RECEIVED-MESSAGE, LINK-CONGESTED, RETRIEVED-MESSAGES, BSNT, ESTABLISH-request, ESTABLISH-response, DATA-request, RETRIEVE-request, REPORT}
 use Rattle.link.specs.declared.Link.{Link}
@@ -45,7 +46,8 @@ pub record After (l after : Link) (said : List Signal) : Type 0 where
   pub n1 : after .n1 ≡ l .n1
   pub c1 : l .c1 ≤ l .n1 → after .c1 ≤ after .n1
   pub bsnt : NoneIsZero (l .bsnt) → NoneIsZero (after .bsnt)
-  pub five : length said ≤ 5
+  pub last : noneOrStatus (l .last) ≡ true → noneOrStatus (after .last) ≡ true
+  pub eight : length said ≤ 8
   pub one-message : messages said ≤ 1
   pub one-brought : brought said ≤ 1
 

@@ -1,6 +1,7 @@
--- What one event does to one link: the row of Table 6 that it meets, the cell of the link's state, what the facts choose there, performed.
+-- What one event does to one link: the row of Table 6 that it meets, the cell of the link's state, what the facts choose there, performed; and where that leads to
+-- proving on a congested link, the cell of congestion behind it.
 use Prim.Native.Nat.{ℕ}
-use mathlib.Core.Bool.{Bool, true, cond}
+use mathlib.Core.Bool.{Bool, true, cond, not, _&&_}
 use mathlib.Core.List.{List, _++_, map}
 use lib.Dec.{eqb, ltb}
 use Rattle.unit.specs.declared.Status.{Status}
@@ -10,7 +11,8 @@ use Rattle.table6.specs.declared.Facts.{Facts}
 use Rattle.table6.specs.Cell.{T1, T2, T3, take-BSNT, end, cell, Choice, illegal, does, chosen}
 use Rattle.table6.specs.Table6 as paper
 use Rattle.table6.specs.Order.{signals}
-use Rattle.table6.specs.Rows.{Heading, plain, behind, AA-ESTABLISH-indication, AA-ESTABLISH-confirm, AA-RELEASE-indication, printed}
+use Rattle.table6.specs.Rows.{Heading, plain, behind, AA-ESTABLISH-indication, AA-ESTABLISH-confirm, AA-RELEASE-indication, Local-Congestion, Local-Congestion-Ceased, printed}
+use Rattle.table6.specs.Words.{is-2/10/3}
 use Rattle.link.specs.declared.Num.{Num}
 use Rattle.link.specs.declared.Link.{Link}
 use Rattle.link.specs.declared.Event.{Event}
@@ -71,8 +73,8 @@ meeting event.Recovered c1 = meets (plain paper.MAAL-LOCAL-PROCESSOR-RECOVERED-r
 meeting event.ForceProving c1 = meets (plain paper.MAAL-FORCE-PROVING-request)
 meeting event.ForceEmergency c1 = meets (plain paper.MAAL-FORCE-EMERGENCY-request)
 meeting event.ClearForceModes c1 = meets (plain paper.MAAL-CLEAR-FORCE-MODES-request)
-meeting (event.Congestion level) c1 = with-param level (plain paper.Local-Congestion)
-meeting event.CongestionCeased c1 = meets (plain paper.Local-Congestion-Ceased)
+meeting (event.Congestion level) c1 = with-param level Local-Congestion
+meeting event.CongestionCeased c1 = meets Local-Congestion-Ceased
 meeting event.T1 c1 = meets (behind (end T1) paper.T1-expires)
 meeting event.T2 c1 = meets (behind (end T2) paper.T2-expires)
 meeting event.T3 c1 = meets (t3Row c1)
@@ -101,5 +103,20 @@ outcome l m (does acts next) =
 abbrev pub at-meeting : Link → Meeting → Outcome
 at-meeting l m = outcome l m (chosen (facts l m) (cell (printed (facts l m) (m .heading .row)) (l .state)))
 
+-- CONGESTION AND PROVING (2026-07, for Note 7 of Table 6). "An event that would enter 2/10/3 from another state on a congested link": asked of the link before and
+-- after the event's cell.
+abbrev pub enters : Link → Link → Bool
+enters l next = not (is-2/10/3 (l .state)) && (is-2/10/3 (next .state) && next .congested)
+
+-- "All signals of the first cell come before those of the second, each cell in its own order."
+abbrev pub behind-these : List Signal → Outcome → Outcome
+behind-these first Illegal = Illegal
+behind-these first (Legal next second) = Legal next (first ++ second)
+
+-- It "also performs, in the same call, what Table 6 gives for congestion in 2/10/3".
+abbrev pub onward : Link → Outcome → Outcome
+onward l Illegal = Illegal
+onward l (Legal next first) = cond (enters l next) (behind-these first (at-meeting next (meets Local-Congestion))) (Legal next first)
+
 unfoldable pub stepOf : Link → Event → Outcome
-stepOf l e = at-meeting l (meeting e (l .c1))
+stepOf l e = onward l (at-meeting l (meeting e (l .c1)))

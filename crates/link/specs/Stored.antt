@@ -1,5 +1,6 @@
 -- What the code's views, changes and words stand for. Nothing here has to be believed: the promises of the public functions tie it to specs/Step.antt.
-use Prim.Native.Nat.{ℕ, _-_}
+use Prim.Native.Nat.{ℕ, _-_, _≤_, _<_}
+use mathlib.Core.Path.{_≡_}
 use mathlib.Core.Bool.{Bool, true, false, cond}
 use mathlib.Core.List.{List, map}
 use lib.Dec.{eqb}
@@ -10,7 +11,7 @@ use Rattle.table6.specs.declared.Facts.{Facts}
 use Rattle.table6.specs.Summary.{Op, keep, put, over, Count, same, decided, less, Summary, still}
 use Rattle.table6.specs.Cell.{Told}
 use Rattle.table6.specs.Rows.{heading}
-use Rattle.table6.specs.Stored.{stateOp, arrival, changed, said}
+use Rattle.table6.specs.Stored.{stateOp, arrival, changed, fieldSent, said}
 use Rattle.link.specs.declared.Num.{Num}
 use Rattle.link.specs.declared.Bsnt.{Bsnt}
 use Rattle.link.specs.declared.Link.{Link}
@@ -18,7 +19,7 @@ use Rattle.link.specs.declared.Event.{Event}
 use Rattle.link.specs.declared.Event.the-variants as event
 use Rattle.link.specs.declared.View.{View}
 use Rattle.link.specs.declared.Signal.{Signal}
-use Rattle.link.specs.Effect.{with-state, taken, not-retrievable, generated}
+use Rattle.link.specs.Effect.{with-state, with-bsnt, with-c1, taken, not-retrievable, generated}
 use Rattle.link.specs.Signal.{num, none, signalOf}
 use Rattle.link.specs.Step.{Meeting, facts}
 
@@ -116,15 +117,74 @@ summedUp s field n l =
       bsnt = held (s .bsnt) n (l .bsnt);
       c1 = counted (s .c1) field l;
       n1 = l .n1;
+      congested = over (s .congested) (l .congested);
+      last = over (s .last) (l .last);
     }
 
 -- what an event does to the link by itself, in whatever state it is accepted
 abbrev pub arrivedOf : View → Link → Link
 arrivedOf v l = summedUp (arrival (v .0)) (v .1) (v .2) l
 
--- what a cell does behind that, by its number and by whether a connection comes up, with the peer's field
-abbrev pub appliedOf : ℕ → Bool → ℕ → Link → Link
-appliedOf n up field l = with-state (over (stateOp n) (l .state)) (summedUp (changed still up n) field none l)
+-- what a connection that comes up does behind that, with the peer's field, but for the INS flag
+abbrev pub risenOf : ℕ → Link → Link
+risenOf field l = with-c1 (generated l field) (with-bsnt not-retrievable l)
+
+-- and what a cell does behind that, by its number
+abbrev pub appliedOf : ℕ → Link → Link
+appliedOf n l = with-state (over (stateOp n) (l .state)) (summedUp (changed still false n) 0 none l)
+
+-- WHAT IS NOTED of a step: what becomes of BSNT and of the congested flag, and the field that was sent, for a writer that leaves the rest as it is. 1: BSNT is the
+-- event's number; 2: it is not retrievable any more; 3 and 4: the flag is cleared and set.
+abbrev pub bsntNoted : ℕ → Num → Bsnt → Bsnt
+bsntNoted noted n old = cond (eqb noted 1) (taken n) (cond (eqb noted 2) not-retrievable old)
+
+abbrev pub flagNoted : ℕ → Bool → Bool
+flagNoted noted old = cond (eqb noted 3) false (cond (eqb noted 4) true old)
+
+abbrev pub lastSent : ℕ → ℕ → ℕ
+lastSent sent old = cond (eqb sent 0) old (fieldSent sent)
+
+pub record Noted (l : Link) (n : Num) (after : Link) (noted sent : ℕ) : Type 0 where
+  pub n1 : after .n1 ≡ l .n1
+  pub bsnt : after .bsnt ≡ bsntNoted noted n (l .bsnt)
+  pub congested : after .congested ≡ flagNoted noted (l .congested)
+  pub last : after .last ≡ lastSent sent (l .last)
+  pub known : noted ≤ 4
+  pub six : sent < 8
+
+-- what is noted of an event by itself
+abbrev pub notedOf : Event → ℕ
+notedOf event.Message = 0
+notedOf event.Emergency = 0
+notedOf event.EmergencyCeases = 0
+notedOf event.Stop = 0
+notedOf event.Start = 0
+notedOf event.RetrieveBsnt = 0
+notedOf (event.Retrieval n) = 0
+notedOf event.FlushBuffers = 0
+notedOf event.Continue = 0
+notedOf (event.EstablishIndication p) = 0
+notedOf (event.EstablishConfirm p) = 0
+notedOf (event.ReleaseIndication f s) = 0
+notedOf event.ReleaseConfirm = 0
+notedOf (event.Data a n) = 1
+notedOf event.Resync = 0
+notedOf event.Recover = 0
+notedOf event.UnitData = 0
+notedOf (event.Retrieve k) = 0
+notedOf event.RetrieveComplete = 0
+notedOf event.ProvingUnsuccessful = 0
+notedOf event.Release = 0
+notedOf event.Outage = 0
+notedOf event.Recovered = 0
+notedOf event.ForceProving = 0
+notedOf event.ForceEmergency = 0
+notedOf event.ClearForceModes = 0
+notedOf (event.Congestion p) = 4
+notedOf event.CongestionCeased = 3
+notedOf event.T1 = 0
+notedOf event.T2 = 0
+notedOf event.T3 = 0
 
 -- SIGNALS
 
@@ -144,6 +204,6 @@ givenBy param num l = record { param = param; num = num; mps = l .mps; ups = l .
 abbrev pub meantBy : Given → Told → Signal
 meantBy o a = signalOf (o .param) (o .num) (o .mps) (o .ups) (o .bsnt) a
 
--- the signals of a cell, by its number
-unfoldable pub signalsOf : ℕ → Given → List Signal
-signalsOf words o = map (meantBy o) (said words)
+-- the signals of a step, by its words
+unfoldable pub signalsOf : ℕ → ℕ → Given → List Signal
+signalsOf count words o = map (meantBy o) (said count words)

@@ -16,7 +16,7 @@ use Rattle.link.specs.declared.Link.{Link}
 use Rattle.link.specs.declared.Signal.{Signal}
 use Rattle.link.specs.declared.Event.{Event}
 use Rattle.link.specs.declared.Event.the-variants as event
-use Rattle.link.specs.Effect.{with-state, with-ins, with-lpo, with-ups, with-bsnt, with-c1, with-timer, taken}
+use Rattle.link.specs.Effect.{with-state, with-ins, with-lpo, with-ups, with-bsnt, with-c1, with-timer, taken, with-congested, with-last}
 use Rattle.link.specs.Signal.{none, num, signal, bare}
 use Rattle.link.specs.Step.{Outcome, Legal, stepOf}
 
@@ -76,7 +76,7 @@ twelve =
     ∷ record {
       before = proved true true;
       event = λ r. event.T3;
-      after = λ r. with-state 1/4/1 (with-ups Ups.Normal (with-timer T2 false (with-timer T3 false (proved true true r))));
+      after = λ r. with-state 1/4/1 (with-last (field PO) (with-ups Ups.Normal (with-timer T2 false (with-timer T3 false (proved true true r)))));
       signals = release PO ∷ bare OUT-OF-SERVICE ∷ report LR OOS – ∷ bare STOP-PROVING ∷ bare RESET-T2 ∷ [];
     }
     -- 5
@@ -97,7 +97,7 @@ twelve =
     ∷ record {
       before = in-state 3/10/5;
       event = λ r. event.Data Arrived.INS (r .number);
-      after = λ r. with-state 1/4/1 (with-ups Ups.Normal (with-bsnt (taken (r .number)) (r .link)));
+      after = λ r. with-state 1/4/1 (with-last (field PE) (with-ups Ups.Normal (with-bsnt (taken (r .number)) (r .link))));
       signals = release PE ∷ bare OUT-OF-SERVICE ∷ report LR OOS PE ∷ [];
     }
     -- 8
@@ -118,14 +118,14 @@ twelve =
     ∷ record {
       before = in-state 2/10/3;
       event = λ r. event.Recover;
-      after = λ r. with-state 2/4/2 (with-timer T3 false (r .link));
+      after = λ r. with-state 2/4/2 (with-last (field PE) (with-timer T3 false (r .link)));
       signals = report LR – PE ∷ release PE ∷ bare STOP-PROVING ∷ bare RESET-T3 ∷ [];
     }
     -- 11
     ∷ record {
       before = in-state 2/10/3;
       event = λ r. event.Congestion (r .level);
-      after = λ r. with-state 2/4/2 (with-timer T3 false (r .link));
+      after = λ r. with-state 2/4/2 (with-last (field PNS) (with-congested true (with-timer T3 false (r .link))));
       signals = release PNS ∷ report LR – CD ∷ bare STOP-PROVING ∷ bare RESET-T3 ∷ [];
     }
     -- 12

@@ -10,14 +10,14 @@ use unit::Status;
 use unit::Ups;
 ghost use mathlib.Core.Path.{_≡_};
 ghost use mathlib.Core.Bool.{cond};
-ghost use Prim.Native.Nat.{_-_, _≤_};
-ghost use lib.ListN.{length};
-ghost use Rattle.table6.specs.Stored.{bitOf, timersAfter, flagsAfter, upsAfter, said, SoundNumber};
-ghost use Rattle.link.specs.Effect.{with-bsnt, with-mps, with-ups, with-c1, taken, generated};
+ghost use Prim.Native.Nat.{_-_, _≤_, _<_};
+ghost use Rattle.table6.specs.Summary.{over};
+ghost use Rattle.table6.specs.Stored.{bitOf, timersAfter, flagsAfter, upsAfter, sentBy, fieldSent, lastOp, wordCount, SoundNumber};
+ghost use Rattle.link.specs.Effect.{with-bsnt, with-mps, with-ups, with-c1, with-congested, taken};
 ghost use Rattle.link.specs.Fresh.{freshLink};
 ghost use Rattle.link.specs.Lent.{Turned};
 ghost use Rattle.link.specs.Step.{named, stepOf};
-ghost use Rattle.link.specs.Stored.{dataRowOf, t3RowOf, viewOf, factsOf, arrivedOf, appliedOf};
+ghost use Rattle.link.specs.Stored.{dataRowOf, t3RowOf, viewOf, factsOf, arrivedOf, risenOf, appliedOf, notedOf};
 
 // A number of 24 bits, its highest octet first; or the three values of a REPORT.
 pub struct Num {
@@ -32,7 +32,8 @@ pub struct Bsnt {
     pub num: Num,
 }
 
-// A link's record: state, the INS flag, LPO, MPS, UPS, the timers that run, BSNT, C1 and n1.
+// A link's record: state, the INS flag, LPO, MPS, UPS, the timers that run, BSNT, C1 and n1; whether the link is congested, and the field of the last release that
+// was sent, 0 before the first.
 pub struct Link {
     pub state: State,
     pub ins: bool,
@@ -45,6 +46,8 @@ pub struct Link {
     pub bsnt: Bsnt,
     pub c1: u16,
     pub n1: u16,
+    pub congested: bool,
+    pub last: u8,
 }
 
 // A link before its first event.
@@ -66,6 +69,8 @@ pub fn fresh(n1: u16) -> Link
         },
         c1: 0,
         n1: n1,
+        congested: false,
+        last: 0,
     }
 }
 
@@ -243,6 +248,8 @@ fn with_bsnt(n: Num, l: Link) -> Link
         },
         c1: l.c1,
         n1: l.n1,
+        congested: l.congested,
+        last: l.last,
     }
 }
 
@@ -270,6 +277,8 @@ fn with_mps(x: Mps, l: Link) -> Link
         },
         c1: l.c1,
         n1: l.n1,
+        congested: l.congested,
+        last: l.last,
     }
 }
 
@@ -297,6 +306,8 @@ fn with_ups(x: Ups, l: Link) -> Link
         },
         c1: l.c1,
         n1: l.n1,
+        congested: l.congested,
+        last: l.last,
     }
 }
 
@@ -325,6 +336,38 @@ fn with_c1(x: u16, l: Link) -> Link
         },
         c1: x,
         n1: l.n1,
+        congested: l.congested,
+        last: l.last,
+    }
+}
+
+fn with_congested(x: bool, l: Link) -> Link
+    ensures { λ r. ⌜ r ≡ with-congested x l ⌝ }
+{
+    let state = l.state;
+    let mps = l.mps;
+    let ups = l.ups;
+    Link {
+        state: state,
+        ins: l.ins,
+        lpo: l.lpo,
+        mps: mps,
+        ups: ups,
+        t1: l.t1,
+        t2: l.t2,
+        t3: l.t3,
+        bsnt: Bsnt {
+            known: l.bsnt.known,
+            num: Num {
+                a: l.bsnt.num.a,
+                b: l.bsnt.num.b,
+                c: l.bsnt.num.c,
+            },
+        },
+        c1: l.c1,
+        n1: l.n1,
+        congested: x,
+        last: l.last,
     }
 }
 
@@ -346,6 +389,8 @@ fn arrived(e: Event, l: Link) -> Link
         Event::Data(_, n) => with_bsnt(n, l),
         Event::EmergencyCeases => with_ups(Ups::Normal, l),
         Event::Emergency => with_ups(Ups::Emergency, l),
+        Event::Congestion(_) => with_congested(true, l),
+        Event::CongestionCeased => with_congested(false, l),
         _ => l,
     }
 }
@@ -383,29 +428,61 @@ fn ups_after(n: u64, old: Ups) -> Ups
     }
 }
 
-// An octet of BSNT, which is 0 once a connection comes up.
-fn unless(up: bool, old: u8) -> u8
-    ensures { λ r. ⌜ r ≡ cond up 0 old ⌝ }
+// The record with a connection that comes up, with the peer's field: C1 is decided, and BSNT is not retrievable any more. The INS flag is the cell's.
+fn risen(field: u8, l: Link) -> Link
+    ensures { λ r. ⌜ r ≡ risenOf field l ⌝ }
 {
-    if up { 0 } else { old }
-}
-
-fn c1_after(up: bool, field: u8, l: Link) -> u16
-    ensures { λ r. ⌜ r ≡ cond up (generated l field) (l .c1) ⌝ }
-{
+    let state = l.state;
     let mps = l.mps;
     let ups = l.ups;
-    if up {
-        unit::generate_n1(mps, ups, field, l.n1)
-    } else {
-        l.c1
+    let c1 = unit::generate_n1(mps, ups, field, l.n1);
+    Link {
+        state: state,
+        ins: l.ins,
+        lpo: l.lpo,
+        mps: mps,
+        ups: ups,
+        t1: l.t1,
+        t2: l.t2,
+        t3: l.t3,
+        bsnt: Bsnt {
+            known: false,
+            num: ZERO,
+        },
+        c1: c1,
+        n1: l.n1,
+        congested: l.congested,
+        last: l.last,
     }
 }
 
-// The record after what a cell does to it: by the masks of its number, and by whether a connection comes up, with the peer's field.
-fn applied(n: u64, up: bool, field: u8, l: Link) -> Link
+// Which field of a release the number of a cell sends: 0 for none, else one of six.
+fn sent(n: u64) -> u8
+    ensures { λ r. ⌜ r ≡ sentBy n ⌝ }
+{
+    (n / effects::SENDS % 8) as u8
+}
+
+// The field itself, a status of clause 10.
+pub fn field_sent(sent: u8) -> u8
+    requires { ⌜ sent < 8 ⌝ }
+    ensures { λ r. ⌜ r ≡ fieldSent sent ⌝ }
+{
+    if sent < 3 { sent } else { sent + 4 }
+}
+
+// The last field after it.
+fn last_after(n: u64, old: u8) -> u8
+    ensures { λ r. ⌜ r ≡ over (lastOp n) old ⌝ }
+{
+    let s = sent(n);
+    if s == 0 { old } else { field_sent(s) }
+}
+
+// The record after what a cell does to it, by the masks of its number.
+fn applied(n: u64, l: Link) -> Link
     requires { ⌜ SoundNumber n ⌝ }
-    ensures { λ r. ⌜ r ≡ appliedOf n up field l ⌝ }
+    ensures { λ r. ⌜ r ≡ appliedOf n l ⌝ }
 {
     let state = l.state;
     let mps = l.mps;
@@ -424,36 +501,89 @@ fn applied(n: u64, up: bool, field: u8, l: Link) -> Link
         t2: timers / 2 % 2 == 1,
         t3: timers / 4 % 2 == 1,
         bsnt: Bsnt {
-            known: l.bsnt.known & !up,
+            known: l.bsnt.known,
             num: Num {
-                a: unless(up, l.bsnt.num.a),
-                b: unless(up, l.bsnt.num.b),
-                c: unless(up, l.bsnt.num.c),
+                a: l.bsnt.num.a,
+                b: l.bsnt.num.b,
+                c: l.bsnt.num.c,
             },
         },
-        c1: c1_after(up, field, l),
+        c1: l.c1,
         n1: l.n1,
+        congested: l.congested,
+        last: last_after(n, l.last),
     }
 }
 
-// How many signals a cell says, by its number.
-pub fn count(words: u64) -> u8
-    ensures { λ r. ⌜ r ≡ length (said words) ⌝ }
+// How many signals a number says.
+fn count(n: u64) -> u8
+    ensures { λ r. ⌜ r ≡ wordCount n ⌝ }
 {
-    (words / effects::SAYS % 16) as u8
+    (n / effects::SAYS % 16) as u8
 }
 
-// What is answered of an event: that it is illegal, or the number of its cell, which has its signals, as effects.rt of table6 has it. What they carry is taken where
-// they are written, from the event's octets and from the link that is left: no cell alters what its signals take.
+// What is noted of a step, for a writer that leaves the rest of a record as it is: of BSNT and of the congested flag, neither; the event's number is BSNT; BSNT is
+// forgotten; the flag is cleared; it is set.
+pub const NOTHING: u8 = 0;
+
+pub const NUMBER: u8 = 1;
+
+pub const FORGOTTEN: u8 = 2;
+
+pub const CEASED: u8 = 3;
+
+pub const CONGESTED: u8 = 4;
+
+// What is noted of an event by itself.
+fn noted(e: Event) -> u8
+    ensures { λ r. ⌜ r ≡ notedOf e ⌝ }
+{
+    match e {
+        Event::Data(_, _) => NUMBER,
+        Event::Congestion(_) => CONGESTED,
+        Event::CongestionCeased => CEASED,
+        _ => NOTHING,
+    }
+}
+
+// What is answered of an event: that it is illegal; or the words of its signals, as effects.rt of table6 has them, and how many they are, what is noted, and which
+// field of a release was sent. What the signals carry is taken where they are written, from the event's octets and from the record that is left: no cell alters
+// what its signals take.
 pub enum Reply {
     Illegal,
-    Legal(u64),
+    Legal {
+        words: u64,
+        count: u8,
+        noted: u8,
+        sent: u8,
+    },
 }
 
 // A record after an event, and what is answered.
 pub struct Turn {
     pub link: Link,
     pub reply: Reply,
+}
+
+// A record before its cell, and what is noted so far.
+struct Begun {
+    link: Link,
+    noted: u8,
+}
+
+fn raised(up: bool, field: u8, noted: u8, l: Link) -> Begun
+    ensures { λ r. ⌜ (r .link ≡ cond up (risenOf field l) l) × (r .noted ≡ cond up 2 noted) ⌝ }
+{
+    if up {
+        return Begun {
+            link: risen(field, l),
+            noted: FORGOTTEN,
+        };
+    }
+    Begun {
+        link: l,
+        noted: noted,
+    }
 }
 
 // One event for one link, by value. An illegal event leaves the record as it was.
@@ -463,18 +593,25 @@ fn step(l: Link, e: Event) -> Turn
     let v = view_of(e, l.c1);
     let a = arrived(e, l);
     let f = facts_of(a, v);
+    let note = noted(e);
     let View(row, param, _, _, _) = v;
     let state = l.state;
-    match table6::cell(row, state, f) {
+    match table6::cell(row, state, f, l.congested) {
         Met::Illegal => Turn {
             link: l,
             reply: Reply::Illegal,
         },
-        Met::Does(n, up) => {
-            let next = applied(n, up, param, a);
+        Met::Does(n, words, up) => {
+            let k = raised(up, param, note, a);
+            let next = applied(n, k.link);
             Turn {
                 link: next,
-                reply: Reply::Legal(n),
+                reply: Reply::Legal {
+                    words: words,
+                    count: count(n),
+                    noted: k.noted,
+                    sent: sent(n),
+                },
             }
         }
     }

@@ -39,7 +39,7 @@ t3-arrived false l e = refl
 
 -- the tags of all other events
 abbrev others : List ℕ
-others = 0 ∷ 3 ∷ 4 ∷ 5 ∷ 6 ∷ 7 ∷ 8 ∷ 9 ∷ 10 ∷ 11 ∷ 12 ∷ 14 ∷ 15 ∷ 16 ∷ 17 ∷ 18 ∷ 19 ∷ 20 ∷ 21 ∷ 22 ∷ 26 ∷ 27 ∷ 28 ∷ 29 ∷ []
+others = 0 ∷ 3 ∷ 4 ∷ 5 ∷ 6 ∷ 7 ∷ 8 ∷ 9 ∷ 10 ∷ 11 ∷ 12 ∷ 14 ∷ 15 ∷ 16 ∷ 17 ∷ 18 ∷ 19 ∷ 20 ∷ 21 ∷ 22 ∷ 28 ∷ 29 ∷ []
 
 as-it-was : (e : Event) (l : Link) → OneOf others (Declared.tagOf E.the-type e) → l ≡ arrivedOf (viewOf e (l .c1)) l
 as-it-was event.Message l h = refl
@@ -68,8 +68,8 @@ as-it-was event.Recovered l h = refl
 as-it-was event.ForceProving l h = absurd (miss others 23 tt h)
 as-it-was event.ForceEmergency l h = absurd (miss others 24 tt h)
 as-it-was event.ClearForceModes l h = absurd (miss others 25 tt h)
-as-it-was (event.Congestion p) l h = refl
-as-it-was event.CongestionCeased l h = refl
+as-it-was (event.Congestion p) l h = absurd (miss others 26 tt h)
+as-it-was event.CongestionCeased l h = absurd (miss others 27 tt h)
 as-it-was event.T1 l h = refl
 as-it-was event.T2 l h = refl
 as-it-was event.T3 l h = absurd (miss others 30 tt h)
@@ -119,6 +119,18 @@ enum-told-6 c = search needs
 with-ups-requires-2 : tie.Need-with-ups-requires-2
 with-ups-requires-2 c κs = search needs
 
+enum-told-7 : tie.Need-enum-told-7
+enum-told-7 c = search needs
+
+with-congested-requires : tie.Need-with-congested-requires
+with-congested-requires c κs = search needs
+
+enum-told-8 : tie.Need-enum-told-8
+enum-told-8 c = search needs
+
+with-congested-requires-2 : tie.Need-with-congested-requires-2
+with-congested-requires-2 c κs = search needs
+
 returns : tie.Need-returns
 returns c =
     let l = c .before .before .before .before .args .l in
@@ -146,7 +158,13 @@ returns-7 : tie.Need-returns-7
 returns-7 c = c .with-ups2 .ensures ∙ at (c .before .before .before .args .l) (c .before .enum-told6 .given .1)
 
 returns-8 : tie.Need-returns-8
-returns-8 c = as-it-was (c .before .args .e) (c .before .args .l) (c .match .keys8)
+returns-8 c = c .with-congested .ensures ∙ at (c .before .before .before .args .l) (c .before .enum-told7 .given .1)
+
+returns-9 : tie.Need-returns-9
+returns-9 c = c .with-congested2 .ensures ∙ at (c .before .before .before .args .l) (c .before .enum-told8 .given .1)
+
+returns-10 : tie.Need-returns-10
+returns-10 c = as-it-was (c .before .args .e) (c .before .args .l) (c .match .keys10)
 
 pub arrived-spec : {M : Type 1} → statement M
 arrived-spec =
@@ -167,6 +185,10 @@ arrived-spec =
     with-ups-requires
     enum-told-6
     with-ups-requires-2
+    enum-told-7
+    with-congested-requires
+    enum-told-8
+    with-congested-requires-2
     returns
     returns-2
     returns-3
@@ -174,4 +196,6 @@ arrived-spec =
     returns-5
     returns-6
     returns-7
-    returns-8)
+    returns-8
+    returns-9
+    returns-10)

@@ -1,7 +1,5 @@
 -- `link::count` meets its contract. Assumes nothing.
-use mathlib.Core.Path.{sym}
 use borrow.Author.Needs.{needs}
-use Rattle.link.proofs.Spoken.{counted}
 use Rattle.link.proofs.count.Statement.{statement}
 use Rattle.link.proofs.count.Tie as tie
 
@@ -9,7 +7,7 @@ cast-result : tie.Need-cast-result
 cast-result c = search needs
 
 returns : tie.Need-returns
-returns c = sym (counted (c .args .words))
+returns c = search needs
 
 pub count-spec : {M : Type 1} → statement M
 count-spec = tie.close (tie.spec cast-result returns)
