@@ -1,2 +1,3 @@
 pub mod LinkRecord
+pub mod Rewritten
 pub mod OneAnswer

@@ -1,16 +1,17 @@
 -- The link record's round trips. Assumes nothing.
 use mathlib.Core.Path.{_≡_, refl, sym, ap, subst, _∙_}
-use mathlib.Core.Bool.{Bool, true, false, cond, _&&_, _||_, and-true, and-false, and-assoc, true≢false}
+use mathlib.Core.Bool.{Bool, true, false, cond, not, _&&_, _||_, and-true, and-false, and-assoc, and-comm, true≢false}
 use mathlib.Core.List.{List, [], _∷_}
 use Prim.Native.Nat.{ℕ, zero, suc, _+_, _*_, _/_, _%_, _≤_}
 use native.Mathlib.Omega.{arith}
 use native.Mathlib.Nat.{div-add-mod'}
 use lib.Dec.{eqb, leb}
-use lib.ListN.{length}
-use borrow.Author.Tests.{eqb-true, leb-true, le-leb, lt-leb}
+use lib.ListN.{length, getD}
+use borrow.Author.Tests.{eqb-true, leb-true, le-leb, lt-leb, ne-eqb}
 use Rattle.table6.specs.RefusalCodes.{REFUSED-RECORD}
 use Rattle.unit.specs.declared.Mps.{Mps}
 use Rattle.unit.specs.declared.Ups.{Ups}
+use Rattle.unit.specs.Unit.{noneOrStatus}
 use Rattle.unit.specs.Proving.{mpsCode, upsCode}
 use Rattle.unit.specs.Answered.{Answered, refused, accepted}
 use Rattle.table6.specs.declared.State.{State}
@@ -49,6 +50,10 @@ ups-back Ups.Emergency = refl
 bit-back : (b : Bool) → eqb (bit b) 1 ≡ b
 bit-back true = refl
 bit-back false = refl
+
+only-flag : (b : Bool) → eqb (bit b % 2) 1 ≡ b
+only-flag true = refl
+only-flag false = refl
 
 -- bits of an octet: the lowest, the second, the third
 first : (x y z : Bool) → eqb ((bit x + 2 * bit y + 4 * bit z) % 2) 1 ≡ x
@@ -107,6 +112,8 @@ unpacked l = λ i. record {
   bsnt = record { known = bit-back (l .bsnt .known) i; num = l .bsnt .num };
   c1 = div-add-mod' (l .c1) 256 i;
   n1 = div-add-mod' (l .n1) 256 i;
+  congested = only-flag (l .congested) i;
+  last = l .last;
 }
 
 -- WHAT WAS PACKED IS WELL-FORMED
@@ -145,7 +152,7 @@ within m n h = le-leb m n h
 pub packed-well : PackedWell
 unfolding octetsOf wellFormed
 packed-well l g =
-    both (both (both (both (both (both (both (both (both (both (both refl refl)
+    both (both (both (both (both (both (both (both (both (both (both (both (both (both (both refl refl)
     (state-low (l .state))) (state-high (l .state)))
     (within (bit (l .ins) + 2 * bit (l .lpo)) 3 (omega (arith, bit-le (l .ins), bit-le (l .lpo)))))
     (within (mpsCode (l .mps)) 2 (omega (arith, mps-below (l .mps)))))
@@ -154,7 +161,11 @@ packed-well l g =
     (within (bit (l .bsnt .known)) 1 (bit-le (l .bsnt .known))))
     (known-or-none l (l .bsnt .known) refl (g .1)))
     refl)
-    (within 1 (two (l .n1 / 256) (l .n1 % 256)) (rw (div-add-mod' (l .n1) 256) (g .0)))
+    (within 1 (two (l .n1 / 256) (l .n1 % 256)) (rw (div-add-mod' (l .n1) 256) (g .0))))
+    (within (bit (l .congested)) 1 (bit-le (l .congested))))
+    (g .2))
+    refl)
+    refl
 
 -- AND BACK
 
@@ -177,51 +188,44 @@ timers-same c h = alike (λ k. bit (eqb (k % 2) 1) + 2 * bit (eqb (k / 2 % 2) 1)
 known-same : (c : ℕ) → c ≤ 1 → bit (eqb c 1) ≡ c
 known-same c h = alike (λ k. bit (eqb k 1)) (λ k. k) 2 0 refl c (omega arith)
 
--- the twelve tests of a well-formed record, one by one
-parts : (a b c d e f g h i j k m : Bool) → a && b && c && d && e && f && g && h && i && j && k && m ≡ true →
-    (a ≡ true) × (b ≡ true) × (c ≡ true) × (d ≡ true) × (e ≡ true) × (f ≡ true) × (g ≡ true) × (h ≡ true) × (i ≡ true) × (j ≡ true) × (k ≡ true) × (m ≡ true)
-parts a b c d e f g h i j k m w =
-    let w11 = left (a && b && c && d && e && f && g && h && i && j && k) m w in
-    let w10 = left (a && b && c && d && e && f && g && h && i && j) k w11 in
-    let w9 = left (a && b && c && d && e && f && g && h && i) j w10 in
-    let w8 = left (a && b && c && d && e && f && g && h) i w9 in
-    let w7 = left (a && b && c && d && e && f && g) h w8 in
-    let w6 = left (a && b && c && d && e && f) g w7 in
-    let w5 = left (a && b && c && d && e) f w6 in
-    let w4 = left (a && b && c && d) e w5 in
-    let w3 = left (a && b && c) d w4 in
-    let w2 = left (a && b) c w3 in (
-      left a b w2,
-      right a b w2,
-      right (a && b) c w3,
-      right (a && b && c) d w4,
-      right (a && b && c && d) e w5,
-      right (a && b && c && d && e) f w6,
-      right (a && b && c && d && e && f) g w7,
-      right (a && b && c && d && e && f && g) h w8,
-      right (a && b && c && d && e && f && g && h) i w9,
-      right (a && b && c && d && e && f && g && h && i) j w10,
-      right (a && b && c && d && e && f && g && h && i && j) k w11,
-      right (a && b && c && d && e && f && g && h && i && j && k) m w,
-    )
+flag-same : (c : ℕ) → c ≤ 1 → bit (eqb (c % 2) 1) ≡ c
+flag-same c h = alike (λ k. bit (eqb (k % 2) 1)) (λ k. k) 2 0 refl c (omega arith)
 
-formed : (r : List ℕ) → wellFormed r ≡ true →
-    (eqb (at r 0) 76 ≡ true)
-    × (eqb (at r 1) 75 ≡ true)
-    × (leb 1 (at r 2) ≡ true)
-    × (leb (at r 2) 8 ≡ true)
-    × (leb (at r 3) 3 ≡ true)
-    × (leb (at r 4) 2 ≡ true)
-    × (leb (at r 5) 1 ≡ true)
-    × (leb (at r 6) 7 ≡ true)
-    × (leb (at r 7) 1 ≡ true)
-    × (eqb (at r 7) 1 || eqb (at r 8) 0 && eqb (at r 9) 0 && eqb (at r 10) 0 ≡ true)
-    × (eqb (at r 11) 0 ≡ true)
-    × (leb 1 (two (at r 14) (at r 15)) ≡ true)
+-- tests one behind another, and each of them
+abbrev all : Bool → List Bool → Bool
+all a [] = a
+all a (b ∷ l) = all (a && b) l
+
+each : (a : Bool) (l : List Bool) → all a l ≡ true → (i : ℕ) → getD (a ∷ l) i true ≡ true
+each a [] h zero = h
+each a [] h (suc i) = refl
+each a (b ∷ l) h zero = left a b (each (a && b) l h 0)
+each a (b ∷ l) h (suc zero) = right a b (each (a && b) l h 0)
+each a (b ∷ l) h (suc (suc i)) = each (a && b) l h (suc i)
+
+-- the sixteen tests of a well-formed record: the first, and these
+abbrev others : List ℕ → List Bool
+others r =
+    eqb (at r 1) 78
+    ∷ leb 1 (at r 2)
+    ∷ leb (at r 2) 8
+    ∷ leb (at r 3) 3
+    ∷ leb (at r 4) 2
+    ∷ leb (at r 5) 1
+    ∷ leb (at r 6) 7
+    ∷ leb (at r 7) 1
+    ∷ (eqb (at r 7) 1 || eqb (at r 8) 0 && eqb (at r 9) 0 && eqb (at r 10) 0)
+    ∷ eqb (at r 11) 0
+    ∷ leb 1 (two (at r 14) (at r 15))
+    ∷ leb (at r 16) 1
+    ∷ noneOrStatus (at r 17)
+    ∷ eqb (at r 18) 0
+    ∷ eqb (at r 19) 0
+    ∷ []
+
+formed : (r : List ℕ) → wellFormed r ≡ true → (i : ℕ) → getD (eqb (at r 0) 76 ∷ others r) i true ≡ true
 unfolding wellFormed
-formed r w =
-    parts (eqb (at r 0) 76) (eqb (at r 1) 75) (leb 1 (at r 2)) (leb (at r 2) 8) (leb (at r 3) 3) (leb (at r 4) 2) (leb (at r 5) 1) (leb (at r 6) 7) (leb (at r 7) 1)
-    (eqb (at r 7) 1 || eqb (at r 8) 0 && eqb (at r 9) 0 && eqb (at r 10) 0) (eqb (at r 11) 0) (leb 1 (two (at r 14) (at r 15))) w
+formed r w = each (eqb (at r 0) 76) (others r) w
 
 -- what a well-formed record holds is good
 no-number : (k a b c : Bool) → k || a && b && c ≡ true → k ≡ false → (a ≡ true) × (b ≡ true) × (c ≡ true)
@@ -232,44 +236,48 @@ pub unpacked-good : UnpackedGood
 unfolding linkOf
 unpacked-good r w =
     let f = formed r w in (
-      leb-true 1 (two (at r 14) (at r 15)) (f .11),
+      leb-true 1 (two (at r 14) (at r 15)) (f 11),
       λ e.
-          let n = no-number (eqb (at r 7) 1) (eqb (at r 8) 0) (eqb (at r 9) 0) (eqb (at r 10) 0) (f .9) e in
+          let n = no-number (eqb (at r 7) 1) (eqb (at r 8) 0) (eqb (at r 9) 0) (eqb (at r 10) 0) (f 9) e in
           let a = eqb-true (at r 8) 0 (n .0) in
           let b = eqb-true (at r 9) 0 (n .1) in
           let c = eqb-true (at r 10) 0 (n .2) in
           λ i. record { a = a i; b = b i; c = c i },
+      f 13,
     )
 
 pub repacked : Repacked
 unfolding octetsOf linkOf
 repacked r o n w =
     let p = formed r w in
-    let e0 = sym (eqb-true (at r 0) 76 (p .0)) in
-    let e1 = sym (eqb-true (at r 1) 75 (p .1)) in
-    let e2 = state-same (at r 2) (leb-true 1 (at r 2) (p .2)) (leb-true (at r 2) 8 (p .3)) in
-    let e3 = flags-same (at r 3) (leb-true (at r 3) 3 (p .4)) in
-    let e4 = mps-same (at r 4) (leb-true (at r 4) 2 (p .5)) in
-    let e5 = ups-same (at r 5) (leb-true (at r 5) 1 (p .6)) in
-    let e6 = timers-same (at r 6) (leb-true (at r 6) 7 (p .7)) in
-    let e7 = known-same (at r 7) (leb-true (at r 7) 1 (p .8)) in
-    let e11 = sym (eqb-true (at r 11) 0 (p .10)) in
+    let e0 = sym (eqb-true (at r 0) 76 (p 0)) in
+    let e1 = sym (eqb-true (at r 1) 78 (p 1)) in
+    let e2 = state-same (at r 2) (leb-true 1 (at r 2) (p 2)) (leb-true (at r 2) 8 (p 3)) in
+    let e3 = flags-same (at r 3) (leb-true (at r 3) 3 (p 4)) in
+    let e4 = mps-same (at r 4) (leb-true (at r 4) 2 (p 5)) in
+    let e5 = ups-same (at r 5) (leb-true (at r 5) 1 (p 6)) in
+    let e6 = timers-same (at r 6) (leb-true (at r 6) 7 (p 7)) in
+    let e7 = known-same (at r 7) (leb-true (at r 7) 1 (p 8)) in
+    let e11 = sym (eqb-true (at r 11) 0 (p 10)) in
     let e12 = high-same (at r 12) (at r 13) (octet-at r o 13) in
     let e13 = low-same (at r 12) (at r 13) (octet-at r o 13) in
     let e14 = high-same (at r 14) (at r 15) (octet-at r o 15) in
     let e15 = low-same (at r 14) (at r 15) (octet-at r o 15) in
-    (λ x. e0 x ∷ e1 x ∷ e2 x ∷ e3 x ∷ e4 x ∷ e5 x ∷ e6 x ∷ e7 x ∷ at r 8 ∷ at r 9 ∷ at r 10 ∷ e11 x ∷ e12 x ∷ e13 x ∷ e14 x ∷ e15 x ∷ [])
+    let e16 = flag-same (at r 16) (leb-true (at r 16) 1 (p 12)) in
+    let e18 = sym (eqb-true (at r 18) 0 (p 14)) in
+    let e19 = sym (eqb-true (at r 19) 0 (p 15)) in
+    (λ x. e0 x ∷ e1 x ∷ e2 x ∷ e3 x ∷ e4 x ∷ e5 x ∷ e6 x ∷ e7 x ∷ at r 8 ∷ at r 9 ∷ at r 10 ∷ e11 x ∷ e12 x ∷ e13 x ∷ e14 x ∷ e15 x ∷ e16 x ∷ at r 17 ∷ e18 x ∷ e19 x ∷ [])
     ∙ ap (listing r 0) (sym n)
     ∙ sym (listed r)
 
-pub octets-length : (l : Link) → length (octetsOf l) ≡ 16
+pub octets-length : (l : Link) → length (octetsOf l) ≡ 20
 unfolding octetsOf
 octets-length l = refl
 
 -- WHAT A SLOT TELLS of the octets in it
 
 abbrev pub SlotTold : List ℕ → Slot → Type 0
-SlotTold r Slot.IllFormed = eqb (length r) 16 && wellFormed r ≡ false
+SlotTold r Slot.IllFormed = eqb (length r) 20 && wellFormed r ≡ false
 SlotTold r (Slot.Holds l) = (wellFormed r ≡ true) × (linkOf r ≡ l)
 
 -- the slot of an answer
@@ -284,13 +292,13 @@ back-is (Slot.Holds l) = refl
 pub one-slot : (s t : Slot) → found s ≡ found t → s ≡ t
 one-slot s t h = sym (back-is s) ∙ ap back h ∙ back-is t
 
-tells : (r : List ℕ) (b : Bool) → eqb (length r) 16 && wellFormed r ≡ b → SlotTold r (back (cond b (accepted (linkOf r)) (refused REFUSED-RECORD)))
+tells : (r : List ℕ) (b : Bool) → eqb (length r) 20 && wellFormed r ≡ b → SlotTold r (back (cond b (accepted (linkOf r)) (refused REFUSED-RECORD)))
 tells r false e = e
-tells r true e = (right (eqb (length r) 16) (wellFormed r) e, refl)
+tells r true e = (right (eqb (length r) 20) (wellFormed r) e, refl)
 
 pub slot-tells : (r : List ℕ) (s : Slot) → found s ≡ slotOf r → SlotTold r s
 unfolding slotOf
-slot-tells r s h = subst (SlotTold r) (ap back (sym h) ∙ back-is s) (tells r (eqb (length r) 16 && wellFormed r) refl)
+slot-tells r s h = subst (SlotTold r) (ap back (sym h) ∙ back-is s) (tells r (eqb (length r) 20 && wellFormed r) refl)
 
 -- STATE AND MPS, decoded and tested at once
 
@@ -326,20 +334,36 @@ not-both a b c h = and-assoc a b c ∙ ap (λ (x : Bool). a && x) h ∙ and-fals
 
 pub no-state : (r : List ℕ) → leb 1 (at r 2) && leb (at r 2) 8 ≡ false → wellFormed r ≡ false
 unfolding wellFormed
-no-state r h = rw (not-both (eqb (at r 0) 76 && eqb (at r 1) 75) (leb 1 (at r 2)) (leb (at r 2) 8) h)
+no-state r h = rw (not-both (eqb (at r 0) 76 && eqb (at r 1) 78) (leb 1 (at r 2)) (leb (at r 2) 8) h)
 
 pub no-mps : (r : List ℕ) → leb (at r 4) 2 ≡ false → wellFormed r ≡ false
 unfolding wellFormed
 no-mps r h = simp (h, and-false)
 
--- the test of n1 may come last
-n1-last : (n p a b c d e f : Bool) → p && n && a && b && c && d && e && f ≡ p && a && b && c && d && e && f && n
-n1-last true p a b c d e f = simp and-true
-n1-last false p a b c d e f = simp and-false
+-- the tests of n1 and of the two zeros, as the code has them
+n1-tested : (a b : ℕ) → not (eqb a 0) || not (eqb b 0) ≡ leb 1 (two a b)
+n1-tested zero zero = refl
+n1-tested zero (suc b) = rw (ne-eqb (suc b) 0 (λ (e : suc b ≡ 0). omega arith), le-leb 1 (two 0 (suc b)) (omega arith))
+n1-tested (suc a) b = rw (ne-eqb (suc a) 0 (λ (e : suc a ≡ 0). omega arith), le-leb 1 (two (suc a) b) (omega arith))
+
+zeros-tested : (a b : ℕ) → eqb (a + 256 * b) 0 ≡ (eqb a 0 && eqb b 0)
+zeros-tested zero zero = refl
+zeros-tested zero (suc b) = rw (ne-eqb (0 + 256 * suc b) 0 (λ (e : 0 + 256 * suc b ≡ 0). omega arith), ne-eqb (suc b) 0 (λ (e : suc b ≡ 0). omega arith))
+zeros-tested (suc a) b = rw (ne-eqb (suc a + 256 * b) 0 (λ (e : suc a + 256 * b ≡ 0). omega arith), ne-eqb (suc a) 0 (λ (e : suc a ≡ 0). omega arith))
+
+-- and their order
+and-left-comm : (a b c : Bool) → a && (b && c) ≡ b && (a && c)
+and-left-comm true b c = refl
+and-left-comm false b c = sym (and-false b)
+
+reordered : (p a b c d e f g h i j k : Bool) → p && a && f && c && g && b && i && (j && k) && d && e && h ≡ p && a && b && c && d && e && f && g && h && i && j && k
+reordered p a b c d e f g h i j k = simp (and-assoc, and-comm, and-left-comm)
 
 pub the-rest : (r : List ℕ) → leb 1 (at r 2) ≡ true → leb (at r 2) 8 ≡ true → leb (at r 4) 2 ≡ true → restFormed r ≡ wellFormed r
 unfolding wellFormed restFormed
 the-rest r h k m =
-    n1-last (leb 1 (two (at r 14) (at r 15))) (eqb (at r 0) 76 && eqb (at r 1) 75) (leb (at r 3) 3) (leb (at r 5) 1) (leb (at r 6) 7) (leb (at r 7) 1)
-    (eqb (at r 7) 1 || eqb (at r 8) 0 && eqb (at r 9) 0 && eqb (at r 10) 0) (eqb (at r 11) 0)
-    ∙ simp (h, k, m, and-true)
+    rw (n1-tested (at r 14) (at r 15), zeros-tested (at r 18) (at r 19))
+    (reordered (eqb (at r 0) 76 && eqb (at r 1) 78) (leb (at r 3) 3) (leb (at r 5) 1) (leb (at r 6) 7) (leb (at r 7) 1)
+    (eqb (at r 7) 1 || eqb (at r 8) 0 && eqb (at r 9) 0 && eqb (at r 10) 0) (eqb (at r 11) 0) (leb 1 (two (at r 14) (at r 15))) (leb (at r 16) 1) (noneOrStatus (at r 17))
+    (eqb (at r 18) 0) (eqb (at r 19) 0)
+    ∙ simp (h, k, m, and-true))

@@ -1,4 +1,4 @@
--- The link record of document 01: sixteen octets, what they hold, and when they are well-formed.
+-- The link record of 2026-07, document 01's with another mark and four octets behind it: twenty octets, what they hold, and when they are well-formed.
 use Prim.Native.Nat.{ℕ, _+_, _*_, _/_, _%_, _≤_}
 use mathlib.Core.Path.{_≡_}
 use mathlib.Core.Bool.{Bool, true, cond, _&&_, _||_}
@@ -7,6 +7,7 @@ use lib.Dec.{eqb, leb}
 use lib.ListN.{getD, length}
 use Rattle.unit.specs.declared.Mps.{Mps}
 use Rattle.unit.specs.declared.Ups.{Ups}
+use Rattle.unit.specs.Unit.{noneOrStatus}
 use Rattle.unit.specs.Proving.{mpsCode, upsCode}
 use Rattle.unit.specs.Answered.{Answered, refused, accepted}
 use Rattle.table6.specs.declared.State.{State}
@@ -17,7 +18,7 @@ use Rattle.record.specs.declared.Slot.{Slot}
 use Rattle.octet.specs.Octets.{Octets, at, two, bit}
 
 abbrev pub recordOctets : ℕ
-recordOctets = 16
+recordOctets = 20
 
 abbrev pub stateCode : State → ℕ
 stateCode State.S111 = 1
@@ -29,11 +30,11 @@ stateCode State.S2103 = 6
 stateCode State.S2104 = 7
 stateCode State.S3105 = 8
 
--- The sixteen octets of a record.
+-- The twenty octets of a record.
 unfoldable pub octetsOf : Link → List ℕ
 octetsOf l =
     76  -- L
-    ∷ 75  -- K
+    ∷ 78  -- N
     ∷ stateCode (l .state)
     ∷ (bit (l .ins) + 2 * bit (l .lpo))
     ∷ mpsCode (l .mps)
@@ -48,6 +49,10 @@ octetsOf l =
     ∷ (l .c1 % 256)
     ∷ (l .n1 / 256)
     ∷ (l .n1 % 256)
+    ∷ bit (l .congested)
+    ∷ l .last
+    ∷ 0
+    ∷ 0
     ∷ []
 
 abbrev pub stateAt : ℕ → State
@@ -63,7 +68,7 @@ upsAt c = getD (Ups.Normal ∷ []) c Ups.Emergency
 abbrev pub n1Place : ℕ
 n1Place = 14
 
--- What sixteen octets hold.
+-- What twenty octets hold.
 unfoldable pub linkOf : List ℕ → Link
 linkOf r =
     record {
@@ -78,13 +83,15 @@ linkOf r =
       bsnt = record { known = eqb (at r 7) 1; num = record { a = at r 8; b = at r 9; c = at r 10 } };
       c1 = two (at r 12) (at r 13);
       n1 = two (at r n1Place) (at r (n1Place + 1));
+      congested = eqb (at r 16 % 2) 1;
+      last = at r 17;
     }
 
--- "Anything else is ill-formed."
+-- "Anything else is ill-formed." "Congested (0 or 1), last field (0 or a status code), two zeros."
 unfoldable pub wellFormed : List ℕ → Bool
 wellFormed r =
     eqb (at r 0) 76
-    && eqb (at r 1) 75
+    && eqb (at r 1) 78
     && leb 1 (at r 2)
     && leb (at r 2) 8
     && leb (at r 3) 3
@@ -95,6 +102,10 @@ wellFormed r =
     && (eqb (at r 7) 1 || eqb (at r 8) 0 && eqb (at r 9) 0 && eqb (at r 10) 0)
     && eqb (at r 11) 0
     && leb 1 (two (at r 14) (at r 15))
+    && leb (at r 16) 1
+    && noneOrStatus (at r 17)
+    && eqb (at r 18) 0
+    && eqb (at r 19) 0
 
 -- The reader's answers in document 01's number and values.
 abbrev pub found : Slot → Answered Link
@@ -109,9 +120,9 @@ slotOf r = cond (eqb (length r) recordOctets && wellFormed r) (accepted (linkOf 
 abbrev pub Unpacked : Type 0
 Unpacked = (l : Link) → linkOf (octetsOf l) ≡ l
 
--- What was packed is well-formed, where n1 is at least 1 and a BSNT that isn't known is 0.
+-- What was packed is well-formed, where n1 is at least 1, a BSNT that isn't known is 0, and the last field is 0 or a status code.
 abbrev pub GoodLink : Link → Type 0
-GoodLink l = (1 ≤ l .n1) × NoneIsZero (l .bsnt)
+GoodLink l = (1 ≤ l .n1) × NoneIsZero (l .bsnt) × (noneOrStatus (l .last) ≡ true)
 
 abbrev pub PackedWell : Type 0
 PackedWell = (l : Link) → GoodLink l → wellFormed (octetsOf l) ≡ true
@@ -120,6 +131,6 @@ PackedWell = (l : Link) → GoodLink l → wellFormed (octetsOf l) ≡ true
 abbrev pub UnpackedGood : Type 0
 UnpackedGood = (r : List ℕ) → wellFormed r ≡ true → GoodLink (linkOf r)
 
--- Packing what was unpacked gives the same sixteen octets.
+-- Packing what was unpacked gives the same twenty octets.
 abbrev pub Repacked : Type 0
 Repacked = (r : List ℕ) → Octets r → length r ≡ recordOctets → wellFormed r ≡ true → octetsOf (linkOf r) ≡ r

@@ -104,11 +104,11 @@ at-most-once zero k h = omega arith
 at-most-once (suc zero) k h = omega arith
 at-most-once (suc (suc n)) k h = absurd (omega arith)
 
-pub joined-within : (k : ℕ) (m : List ℕ) (ss : List Signal) → length ss ≤ 5 → messages ss ≤ 1 → length (joined k m ss) ≤ 80 + length m
-joined-within k m ss five one = omega (arith, joined-bound k m ss, at-most-once (messages ss) (length m) one)
+pub joined-within : (k : ℕ) (m : List ℕ) (ss : List Signal) → length ss ≤ 8 → messages ss ≤ 1 → length (joined k m ss) ≤ 128 + length m
+joined-within k m ss eight one = omega (arith, joined-bound k m ss, at-most-once (messages ss) (length m) one)
 
-pub joined-small : (k : ℕ) (m : List ℕ) (ss : List Signal) → length ss ≤ 5 → messages ss ≤ 1 → length m ≤ 4096 → length (joined k m ss) ≤ 4192
-joined-small k m ss five one h = omega (arith, joined-within k m ss five one)
+pub joined-small : (k : ℕ) (m : List ℕ) (ss : List Signal) → length ss ≤ 8 → messages ss ≤ 1 → length m ≤ 4096 → length (joined k m ss) ≤ 4240
+joined-small k m ss eight one h = omega (arith, joined-within k m ss eight one)
 
 -- ROUND TRIPS
 

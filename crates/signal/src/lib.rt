@@ -2,9 +2,7 @@
 mod report;
 
 use event::HEAD;
-use link::Link;
 use link::Num;
-use link::count;
 use octet::put;
 use octet::put_at;
 use octet::wide;
@@ -25,9 +23,7 @@ use report::SSCOP_UU;
 use report::UDR;
 use table6::effects;
 use table6::signals;
-use unit::Mps;
 use unit::Status;
-use unit::Ups;
 ghost use mathlib.Core.Path.{_≡_};
 ghost use mathlib.Core.List.{_++_};
 ghost use Prim.Native.Nat.{_+_, _*_, _≤_};
@@ -38,6 +34,7 @@ ghost use Rattle.table6.specs.Stored.{wordAt};
 ghost use Rattle.link.specs.Kept.{brought};
 ghost use Rattle.link.specs.Stored.{meantBy, signalsOf};
 ghost use Rattle.octet.specs.Octets.{over, putAt};
+ghost use Rattle.record.specs.LinkRecord.{recordOctets, linkOf};
 ghost use Rattle.event.specs.Frame.{headOctets, messageOctets, linkAt, lengthAt, messageOf};
 ghost use Rattle.signal.specs.SignalRecord.{bodyOf, signalOctets, joined, Put};
 ghost use Rattle.signal.specs.Writing.{given, Whole, frontOf, fromCode, PutCode, fixedWords, fixedAt, carryingAt, Ran, Halts};
@@ -163,21 +160,19 @@ fn with_message(out: &mut [u8], e: &[u8]) -> usize
     end
 }
 
-// The field that Table 8 offers to the peer.
-fn offered(mps: Mps, ups: Ups) -> u8
-    ensures { λ r. ⌜ r ≡ code (table8 mps ups) ⌝ }
+// The field that Table 8 offers to the peer, by MPS and UPS in a link's record.
+fn offered(left: &[u8]) -> u8
+    requires { ⌜ length (now left) ≡ recordOctets ⌝ }
+    ensures { λ f. ⌜ f ≡ code (table8 (linkOf (now (left .entry)) .mps) (linkOf (now (left .entry)) .ups)) ⌝ }
 {
-    unit::sscop_uu(mps, ups).code()
+    unit::sscop_uu(record::mps_at(left[4]), record::ups_at(left[5])).code()
 }
 
 // Writes a signal that carries something from octet 4 on, and answers its length. What it carries is told by ranges of words.
-fn put_carrying(out: &mut [u8], w: u64, l: Link, e: &[u8]) -> usize
-    requires { ⌜ (fixedWords ≤ w) × Whole (now e) × (headOctets + length (bodyOf (meantBy (given l (now e)) (wordAt w) .carries) (messageOf (now e))) ≤ length (now out)) ⌝ }
-    ensures { λ r. ⌜ PutCode (fromCode (messageOf (now (e .entry))) (meantBy (given l (now (e .entry))) (wordAt w))) (now (out .entry)) r (now (out .exit)) ⌝ }
+fn put_carrying(out: &mut [u8], w: u64, left: &[u8], e: &[u8]) -> usize
+    requires { ⌜ (fixedWords ≤ w) × (length (now left) ≡ recordOctets) × Whole (now e) × (headOctets + length (bodyOf (meantBy (given (linkOf (now left)) (now e)) (wordAt w) .carries) (messageOf (now e))) ≤ length (now out)) ⌝ }
+    ensures { λ r. ⌜ PutCode (fromCode (messageOf (now (e .entry))) (meantBy (given (linkOf (now (left .entry))) (now (e .entry))) (wordAt w))) (now (out .entry)) r (now (out .exit)) ⌝ }
 {
-    let mps = l.mps;
-    let ups = l.ups;
-    let bsnt = l.bsnt.num;
     let eight = carrying(w);
     put_at(out, CODE, &eight);
     if effects::RECEIVED_MESSAGE <= w {
@@ -190,7 +185,7 @@ fn put_carrying(out: &mut [u8], w: u64, l: Link, e: &[u8]) -> usize
         return with_unit(out, Status::NM);
     }
     if effects::ESTABLISH_REQUEST <= w {
-        return with_param(out, offered(mps, ups));
+        return with_param(out, offered(left));
     }
     if effects::LINK_CONGESTED <= w {
         return with_param(out, e[5]);
@@ -205,7 +200,14 @@ fn put_carrying(out: &mut [u8], w: u64, l: Link, e: &[u8]) -> usize
             },
         );
     }
-    with_number(out, bsnt)
+    with_number(
+        out,
+        Num {
+            a: left[8],
+            b: left[9],
+            c: left[10],
+        },
+    )
 }
 
 // The mark and the link's number, which is in the event's octets as in a signal's.
@@ -227,12 +229,12 @@ fn put_known(out: &mut [u8], front: [u8; 4], w: u64)
 }
 
 // Writes one that carries something, and answers its length.
-fn put_other(out: &mut [u8], front: [u8; 4], w: u64, l: Link, e: &[u8]) -> usize
-    requires { ⌜ (fixedWords ≤ w) × (front ≡ frontOf (now e)) × Whole (now e) × (headOctets + length (bodyOf (meantBy (given l (now e)) (wordAt w) .carries) (messageOf (now e))) ≤ length (now out)) ⌝ }
-    ensures { λ r. ⌜ Put (signalOctets (linkAt (now (e .entry))) (messageOf (now (e .entry))) (meantBy (given l (now (e .entry))) (wordAt w))) (now (out .entry)) r (now (out .exit)) ⌝ }
+fn put_other(out: &mut [u8], front: [u8; 4], w: u64, left: &[u8], e: &[u8]) -> usize
+    requires { ⌜ (fixedWords ≤ w) × (front ≡ frontOf (now e)) × (length (now left) ≡ recordOctets) × Whole (now e) × (headOctets + length (bodyOf (meantBy (given (linkOf (now left)) (now e)) (wordAt w) .carries) (messageOf (now e))) ≤ length (now out)) ⌝ }
+    ensures { λ r. ⌜ Put (signalOctets (linkAt (now (e .entry))) (messageOf (now (e .entry))) (meantBy (given (linkOf (now (left .entry))) (now (e .entry))) (wordAt w))) (now (out .entry)) r (now (out .exit)) ⌝ }
 {
     put(out, &front);
-    put_carrying(out, w, l, e)
+    put_carrying(out, w, left, e)
 }
 
 // How far the writer is: the octets that are written, the words that are left, the lowest next, and how many they are.
@@ -263,28 +265,27 @@ fn put_run(out: &mut [u8], front: [u8; 4], run: Run) -> Run
     }
 }
 
-// Writes what a step says over the front of out, one record behind the other, and answers the length of it all. No step says two signals that carry something: so
+// Writes what a step says over the front of out, by its words and the link's record as it is left, one record behind the other, and answers the length of it all. No step says two signals that carry something: so
 // there is no loop around the one, and what it takes is made ready for it alone.
-pub fn put_all(out: &mut [u8], words: u64, l: Link, e: &[u8]) -> usize
-    requires { ⌜ (headOctets ≤ length (now e)) × (lengthAt (now e) ≡ length (messageOf (now e))) × (length (messageOf (now e)) ≤ messageOctets) × (brought (signalsOf words (given l (now e))) ≤ 1) × (length (joined (linkAt (now e)) (messageOf (now e)) (signalsOf words (given l (now e)))) ≤ length (now out)) ⌝ }
-    ensures { λ r. ⌜ Put (joined (linkAt (now (e .entry))) (messageOf (now (e .entry))) (signalsOf words (given l (now (e .entry))))) (now (out .entry)) r (now (out .exit)) ⌝ }
+pub fn put_all(out: &mut [u8], words: u64, count: u8, left: &[u8], e: &[u8]) -> usize
+    requires { ⌜ (length (now left) ≡ recordOctets) × (headOctets ≤ length (now e)) × (lengthAt (now e) ≡ length (messageOf (now e))) × (length (messageOf (now e)) ≤ messageOctets) × (brought (signalsOf count words (given (linkOf (now left)) (now e))) ≤ 1) × (length (joined (linkAt (now e)) (messageOf (now e)) (signalsOf count words (given (linkOf (now left)) (now e)))) ≤ length (now out)) ⌝ }
+    ensures { λ r. ⌜ Put (joined (linkAt (now (e .entry))) (messageOf (now (e .entry))) (signalsOf count words (given (linkOf (now (left .entry))) (now (e .entry))))) (now (out .entry)) r (now (out .exit)) ⌝ }
 {
-    let n = count(words);
     let front = front_of(e);
     let first = put_run(
         out,
         front,
         Run {
             at: 0,
-            rest: words / effects::FIRST,
-            left: n,
+            rest: words,
+            left: count,
         },
     );
     let at = first.at;
     if first.left == 0 {
         return at;
     }
-    let m = put_other(&mut out[at..], front, first.rest % 256, l, e);
+    let m = put_other(&mut out[at..], front, first.rest % 256, left, e);
     let last = put_run(
         out,
         front,

@@ -1,7 +1,6 @@
 -- `record::pack` meets its contract. Assumes nothing.
-use mathlib.Core.Path.{_≡_}
-use mathlib.Core.List.{List, _∷_}
-use Prim.Native.Nat.{ℕ, _+_, _*_}
+use mathlib.Core.List.{[], _∷_}
+use Prim.Native.Nat.{_+_, _*_, _/_, _%_}
 use native.Mathlib.Omega.{arith}
 use Rattle.record.specs.LinkRecord.{octetsOf}
 use Rattle.octet.proofs.Octets.{bit-le}
@@ -76,18 +75,28 @@ cast-t24 c = search needs
 cast-t26 : tie.Need-cast-t26
 cast-t26 c = search needs
 
--- the calls' answers put in their places
-placed : (tail : List ℕ) {s s′ i i′ o o′ m m′ u u′ a a′ b b′ d d′ k k′ : ℕ} → s ≡ s′ → i ≡ i′ → o ≡ o′ → m ≡ m′ → u ≡ u′ → a ≡ a′ → b ≡ b′ → d ≡ d′ → k ≡ k′ →
-    76 ∷ 75 ∷ s ∷ (i + 2 * o) ∷ m ∷ u ∷ (a + 2 * b + 4 * d) ∷ k ∷ tail ≡ 76 ∷ 75 ∷ s′ ∷ (i′ + 2 * o′) ∷ m′ ∷ u′ ∷ (a′ + 2 * b′ + 4 * d′) ∷ k′ ∷ tail
-placed tail ps pi po pm pu pa pb pd pk = λ x. 76 ∷ 75 ∷ ps x ∷ (pi x + 2 * po x) ∷ pm x ∷ pu x ∷ (pa x + 2 * pb x + 4 * pd x) ∷ pk x ∷ tail
+bit-of-requires-7 : tie.Need-bit-of-requires-7
+bit-of-requires-7 c κs = search needs
 
 returns : tie.Need-returns
 unfolding octetsOf
 returns c =
-    let g = c .before .before .before .before in
-    let h = g .before .before .before .before in
-    placed _ (g .before .before .before .state-code .ensures) (h .before .before .before .before .bit-of .ensures) (h .before .before .before .bit-of2 .ensures)
-    (g .before .before .code .ensures) (g .before .code2 .ensures) (h .before .before .bit-of3 .ensures) (h .before .bit-of4 .ensures) (h .bit-of5 .ensures) (g .bit-of6 .ensures)
+    let k = c .before .before .before .before .before in
+    let t = k .before .before .before .before in
+    let f = t .before .before .before in
+    let l = f .before .before .args .l in
+    let s = k .before .before .before .state-code .ensures in
+    let i = f .before .bit-of .ensures in
+    let o = f .bit-of2 .ensures in
+    let m = k .before .before .code .ensures in
+    let u = k .before .code2 .ensures in
+    let a = t .before .before .bit-of3 .ensures in
+    let b = t .before .bit-of4 .ensures in
+    let d = t .bit-of5 .ensures in
+    let n = k .bit-of6 .ensures in
+    let g = c .bit-of7 .ensures in
+    λ x. 76 ∷ 78 ∷ s x ∷ (i x + 2 * o x) ∷ m x ∷ u x ∷ (a x + 2 * b x + 4 * d x) ∷ n x ∷ l .bsnt .num .a ∷ l .bsnt .num .b ∷ l .bsnt .num .c ∷ 0 ∷ (l .c1 / 256) ∷ (l .c1 % 256)
+    ∷ (l .n1 / 256) ∷ (l .n1 % 256) ∷ g x ∷ l .last ∷ 0 ∷ 0 ∷ []
 
 pub pack-spec : {M : Type 1} → statement M
 pack-spec =
@@ -114,4 +123,5 @@ pack-spec =
     cast-t22
     cast-t24
     cast-t26
+    bit-of-requires-7
     returns)

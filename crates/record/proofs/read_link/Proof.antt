@@ -17,13 +17,13 @@ use borrow.Author.Needs.{needs}
 use Rattle.record.proofs.read_link.Statement.{statement}
 use Rattle.record.proofs.read_link.Tie as tie
 
-sound : (r : List ℕ) {l : Link} → length r ≡ 16 → wellFormed r ≡ true → l ≡ linkOf r → accepted l ≡ slotOf r
+sound : (r : List ℕ) {l : Link} → length r ≡ 20 → wellFormed r ≡ true → l ≡ linkOf r → accepted l ≡ slotOf r
 unfolding slotOf
-sound r n w e = rw (eq-eqb (length r) 16 n, w, e)
+sound r n w e = rw (eq-eqb (length r) 20 n, w, e)
 
-broken : (r : List ℕ) → length r ≡ 16 → wellFormed r ≡ false → refused REFUSED-RECORD ≡ slotOf r
+broken : (r : List ℕ) → length r ≡ 20 → wellFormed r ≡ false → refused REFUSED-RECORD ≡ slotOf r
 unfolding slotOf
-broken r n w = rw (eq-eqb (length r) 16 n, w)
+broken r n w = rw (eq-eqb (length r) 20 n, w)
 
 -- what the decoding of state and MPS told
 stated : (c : tie.After-state-of) (s : SomeState) → c .state-of .result ≡ s → StateTold (at (c .before .before .before .before .args .r .now) 2) s

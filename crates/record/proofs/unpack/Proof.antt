@@ -10,11 +10,11 @@ shared-slice-read-t5 c = search needs
 shared-slice-read-t9 : tie.Need-shared-slice-read-t9
 shared-slice-read-t9 c = search needs
 
-shared-slice-read-ups-of : tie.Need-shared-slice-read-ups-of
-shared-slice-read-ups-of c = search needs
+shared-slice-read-ups-at : tie.Need-shared-slice-read-ups-at
+shared-slice-read-ups-at c = search needs
 
-ups-of-requires : tie.Need-ups-of-requires
-ups-of-requires c κs = search needs
+ups-at-requires : tie.Need-ups-at-requires
+ups-at-requires c κs = search needs
 
 shared-slice-read-t17 : tie.Need-shared-slice-read-t17
 shared-slice-read-t17 c = search needs
@@ -55,9 +55,20 @@ shared-slice-read-wide-4 c = search needs
 wide-requires-2 : tie.Need-wide-requires-2
 wide-requires-2 c κs = search needs
 
+shared-slice-read-t52 : tie.Need-shared-slice-read-t52
+shared-slice-read-t52 c = search needs
+
+shared-slice-read-t56 : tie.Need-shared-slice-read-t56
+shared-slice-read-t56 c = search needs
+
 returns : tie.Need-returns
 unfolding linkOf
-returns c = rw (c .before .before .before .before .before .before .before .before .before .before .before .before .before .before .before .before .before .before .pre .1, c .before .before .before .before .before .before .before .before .before .before .before .before .before .before .before .before .before .before .pre .2, c .before .before .before .before .before .before .before .before .before .before .before .before .before .ups-of .ensures, c .before .before .before .wide .ensures, c .wide2 .ensures)
+returns c =
+    let second = c .before .before in
+    let first = second .before .before .before in
+    let ups = first .before .before .before .before .before .before .before .before .before .before in
+    let start = ups .before .before .before .before .before in
+    rw (start .pre .1, start .pre .2, ups .ups-at .ensures, first .wide .ensures, second .wide2 .ensures)
 
 pub unpack-spec : {M : Type 1} → statement M
 unpack-spec =
@@ -65,8 +76,8 @@ unpack-spec =
     (tie.spec
     shared-slice-read-t5
     shared-slice-read-t9
-    shared-slice-read-ups-of
-    ups-of-requires
+    shared-slice-read-ups-at
+    ups-at-requires
     shared-slice-read-t17
     shared-slice-read-t21
     shared-slice-read-t26
@@ -80,4 +91,6 @@ unpack-spec =
     shared-slice-read-wide-3
     shared-slice-read-wide-4
     wide-requires-2
+    shared-slice-read-t52
+    shared-slice-read-t56
     returns)

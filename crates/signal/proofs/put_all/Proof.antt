@@ -6,13 +6,13 @@ use mathlib.Core.Logic.{inl, inr}
 use mathlib.Core.List.{List, [], _++_, append-nil}
 use Prim.Native.Nat.{ℕ, suc, _+_, _-_, _*_, _/_, _%_, _≤_}
 use lib.ListN.{length, take, drop, length-append, length-take, length-drop}
-use Rattle.table6.specs.Stored.{wordAt, said}
+use Rattle.table6.specs.Stored.{wordAt}
 use Rattle.link.specs.declared.Signal.{Signal}
 use Rattle.link.specs.Kept.{brought}
 use Rattle.link.specs.Stored.{Given, meantBy, signalsOf}
-use Rattle.link.proofs.Spoken.{counted}
 use Rattle.octet.specs.Octets.{at, over, putAt}
 use Rattle.octet.proofs.Over.{lent, length-put}
+use Rattle.record.specs.LinkRecord.{linkOf}
 use Rattle.event.specs.Frame.{linkAt, messageOf}
 use Rattle.signal.specs.declared.Run.{Run}
 use Rattle.signal.specs.SignalRecord.{signalOctets, joined}
@@ -23,9 +23,9 @@ use Rattle.signal.proofs.put_all.Statement.{statement}
 use Rattle.signal.proofs.put_all.Tie as tie
 
 -- the signals of a step are those of its words
-by-words : (words : ℕ) (o : Given) (n : ℕ) → n ≡ length (said words) → signalsOf words o ≡ spoken o n (words / 16777216)
+by-words : (count words : ℕ) (o : Given) → signalsOf count words o ≡ spoken o count words
 unfolding signalsOf
-by-words words o n h = ap (λ (k : ℕ). spoken o k (words / 16777216)) (sym (h ∙ counted words))
+by-words count words o = refl
 
 -- one of some words, and the others
 one-more : (o : Given) (k : ℕ) (m : List ℕ) (n rest : ℕ) → 1 ≤ n → joined k m (spoken o n rest) ≡ signalOctets k m (meantBy o (wordAt (rest % 256))) ++ joined k m (spoken o (n - 1) (rest / 256))
@@ -49,7 +49,7 @@ abbrev S : P → tie.Start
 S k = k .before .before .before .before .before .before .before .before .before
 
 abbrev O : P → Given
-O k = given (S k .args .l) (S k .args .e .now)
+O k = given (linkOf (S k .args .left .now)) (S k .args .e .now)
 
 abbrev E : P → List ℕ
 E k = S k .args .e .now
@@ -64,10 +64,10 @@ abbrev L : P → ℕ
 L k = linkAt (E k)
 
 abbrev N : P → ℕ
-N k = k .before .before .before .before .before .before .count .result
+N k = S k .args .count
 
 abbrev W : P → ℕ
-W k = S k .args .words / 16777216
+W k = S k .args .words
 
 abbrev R : P → Run
 R k = k .before .before .before .put-run .result
@@ -76,7 +76,7 @@ abbrev Out : P → List ℕ
 Out k = k .before .before .before .put-run .last .0
 
 octet-3 : (k : P) → at (E k) 3 ≤ 255
-octet-3 k = omega (arith, k .before .before .before .before .before .before .before .shared-slice-known .given 3)
+octet-3 k = omega (arith, k .before .before .before .before .before .before .shared-slice-known2 .given 3)
 
 ran : (k : P) → Ran (frontOf (E k)) (record { at = 0; rest = W k; left = N k }) (D k) (R k) (Out k)
 ran k = subst (λ (f : List ℕ). Ran f (record { at = 0; rest = W k; left = N k }) (D k) (R k) (Out k)) (k .before .before .before .before .before .front-of .ensures) (k .before .before .before .put-run .ensures .0)
@@ -87,14 +87,14 @@ K k = known (frontOf (E k)) (ran k .told) (W k)
 long : (k : P) → length (K k) ≡ 12 * ran k .told
 long k = known-length (frontOf (E k)) (ran k .told) (W k) refl (ran k .words)
 
-in-words : (k : P) → signalsOf (S k .args .words) (O k) ≡ spoken (O k) (N k) (W k)
-in-words k = by-words (S k .args .words) (O k) (N k) (k .before .before .before .before .before .before .count .ensures)
+in-words : (k : P) → signalsOf (N k) (W k) (O k) ≡ spoken (O k) (N k) (W k)
+in-words k = by-words (N k) (W k) (O k)
 
 -- what is left to be told
 abbrev J : P → List ℕ
 J k = joined (L k) (M k) (spoken (O k) (R k .left) (R k .rest))
 
-parts : (k : P) → joined (L k) (M k) (signalsOf (S k .args .words) (O k)) ≡ K k ++ J k
+parts : (k : P) → joined (L k) (M k) (signalsOf (N k) (W k) (O k)) ≡ K k ++ J k
 parts k =
     let r = ran k in
     ap (joined (L k) (M k)) (in-words k)
@@ -103,13 +103,10 @@ parts k =
 
 -- has room
 inside : (k : P) → R k .at + length (J k) ≤ length (D k)
-inside k = omega (arith, ran k .at, long k, ap length (parts k), length-append (K k) (J k), S k .pre .4)
+inside k = omega (arith, ran k .at, long k, ap length (parts k), length-append (K k) (J k), S k .pre .5)
 
 same : (k : P) → length (Out k) ≡ length (D k)
 same k = ap length (ran k .written) ∙ length-put (D k) (K k) 0 (omega (arith, ran k .at, long k, inside k))
-
-count-requires : tie.Need-count-requires
-count-requires c κs = search needs
 
 front-of-requires : tie.Need-front-of-requires
 front-of-requires c κs = search needs
@@ -119,11 +116,9 @@ put-run-requires c κs =
     let s = c .before .before .before .before .before in
     let a = s .args in
     let e = a .e .now in
-    let n = c .before .before .count .result in
-    let o = given (a .l) e in
-    let w : ℕ = a .words / 16777216 in
-    let h = ap (λ (l : List Signal). length (joined (linkAt e) (messageOf e) l)) (by-words (a .words) o n (c .before .before .count .ensures)) in
-    (ap length (c .before .front-of .ensures), omega (arith, room o e (messageOf e) (omega (arith, c .before .before .before .shared-slice-known .given 3)) n w, h, s .pre .4))
+    let o = given (linkOf (a .left .now)) e in
+    let h = ap (λ (l : List Signal). length (joined (linkAt e) (messageOf e) l)) (by-words (a .count) (a .words) o) in
+    (ap length (c .before .front-of .ensures), omega (arith, room o e (messageOf e) (omega (arith, c .before .before .shared-slice-known2 .given 3)) (a .count) (a .words), h, s .pre .5))
 
 same-length : tie.Need-same-length
 same-length c = search needs
@@ -132,7 +127,7 @@ returns : tie.Need-returns
 unfolding putAt
 returns c =
     let k = c .before in
-    let e : joined (L k) (M k) (signalsOf (S k .args .words) (O k)) ≡ K k = parts k ∙ ap (λ (l : List ℕ). K k ++ l) (nothing (O k) (L k) (M k) (R k .left) (R k .rest) (c .if1 .taken)) ∙ append-nil (K k) in
+    let e : joined (L k) (M k) (signalsOf (N k) (W k) (O k)) ≡ K k = parts k ∙ ap (λ (l : List ℕ). K k ++ l) (nothing (O k) (L k) (M k) (R k .left) (R k .rest) (c .if1 .taken)) ∙ append-nil (K k) in
     record {
       answer = omega (arith, ran k .at, long k, ap length e);
       written = ran k .written ∙ ap (λ (l : List ℕ). over l (D k)) (sym e);
@@ -173,7 +168,7 @@ at-most-one c =
     let t = ran k in
     let e : r .left ≡ suc (r .left - 1) = omega (arith, some c) in
     let h = behind-brings (O k) (N k) (t .told) (r .left) (W k) (t .all) in
-    let g = subst (λ (l : List Signal). brought l ≤ 1) (in-words k) (S k .pre .3) in
+    let g = subst (λ (l : List Signal). brought l ≤ 1) (in-words k) (S k .pre .4) in
     let f : brought (spoken (O k) (r .left) (r .rest)) ≤ 1 = subst (λ (n : ℕ). brought (spoken (O k) (r .left) n) ≤ 1) (sym (t .rest)) (omega (arith, h, g)) in
     subst (λ (n : ℕ). brought (spoken (O k) n (r .rest)) ≤ 1) e f
 
@@ -191,10 +186,10 @@ put-other-requires c κs =
     let q : Q = c .before .before in
     let k = q .before in
     let p = S k .pre in
-    (bringing q, k .before .before .before .before .before .front-of .ensures, (p .0, p .1, p .2), simp (length-take, length-drop) (omega (arith, further q, same k, signal-length (L k) (M k) (G q))))
+    (bringing q, k .before .before .before .before .before .front-of .ensures, p .0, (p .1, p .2, p .3), simp (length-take, length-drop) (omega (arith, further q, same k, signal-length (L k) (M k) (G q))))
 
-add-t17 : tie.Need-add-t17
-add-t17 c = let q : Q = c .before .before .before .before .before .before in omega (arith, c .before .before .before .put-other .ensures .answer, further q, same (q .before), S (q .before) .good)
+add-t16 : tie.Need-add-t16
+add-t16 c = let q : Q = c .before .before .before .before .before .before in omega (arith, c .before .before .before .put-other .ensures .answer, further q, same (q .before), S (q .before) .good)
 
 sub-t22 : tie.Need-sub-t22
 sub-t22 c = search needs
@@ -236,7 +231,6 @@ pub put-all-spec : {M : Type 1} → statement M
 put-all-spec =
     tie.close
     (tie.spec
-    count-requires
     front-of-requires
     put-run-requires
     same-length
@@ -245,7 +239,7 @@ put-all-spec =
     part-put-other-start
     part-put-other-end
     put-other-requires
-    add-t17
+    add-t16
     sub-t22
     put-run-requires-2
     same-length-2

@@ -17,6 +17,7 @@ use Rattle.table6.proofs.Lists.{alike-from}
 use Rattle.link.specs.declared.Carries.{Carries}
 use Rattle.link.specs.Stored.{Given, meantBy}
 use Rattle.octet.specs.Octets.{at, putAt}
+use Rattle.record.specs.LinkRecord.{linkOf}
 use Rattle.event.specs.Frame.{paramAt, numberAt, messageOf}
 use Rattle.event.proofs.Frame.{length-octets}
 use Rattle.signal.specs.SignalRecord.{bodyOf}
@@ -99,7 +100,7 @@ written c =
 
 -- and there is room for twelve
 twelve : (c : tie.After-slice-known2) → 12 ≤ length (S c .args .out .now)
-twelve c = omega (arith, S c .pre .2)
+twelve c = omega (arith, S c .pre .3)
 
 eight-long : (c : tie.After-slice-known2) → length (carryingAt (S c .args .w)) ≡ 8
 eight-long c = omega (arith, written c .answer)
@@ -111,8 +112,8 @@ with-message-requires : tie.Need-with-message-requires
 with-message-requires c κs =
     let s = S (c .before .before) in
     let w = s .args .w in
-    let h = rw (carries-message (given (s .args .l) (s .args .e .now)) w (ltb w 46) (c .before .if1 .taken) refl) at (s .pre .2) in
-    (s .pre .1, omega (arith, h, s .pre .1 .0, length-drop 12 (s .args .e .now)))
+    let h = rw (carries-message (given (linkOf (s .args .left .now)) (s .args .e .now)) w (ltb w 46) (c .before .if1 .taken) refl) at (s .pre .3) in
+    (s .pre .2, omega (arith, h, s .pre .2 .0, length-drop 12 (s .args .e .now)))
 
 returns : tie.Need-returns
 returns c =
@@ -120,11 +121,11 @@ returns c =
     let a = S k .args in
     let e = a .e .now in
     let m = messageOf e in
-    let h = S k .pre .1 in
-    let l = length-octets e (omega (arith, k .before .before .before .before .before .before .before .shared-slice-known .given 11)) (h .1) in
+    let h = S k .pre .2 in
+    let l = length-octets e (omega (arith, k .before .before .before .before .before .before .shared-slice-known2 .given 11)) (h .1) in
     let p = with-end (written k) (twelve k) 6 (drop 10 e) (eight-long k) (omega arith) (omega (arith, length-drop 10 e, h .0)) in
     let t : drop 10 e ≡ length m / 256 ∷ length m % 256 ∷ m = tail e (h .0) ∙ (λ i. sym (l .0) i ∷ sym (l .1) i ∷ m) in
-    let q = ap (λ (x : List ℕ). take 6 (carryingAt (a .w)) ++ x) t ∙ of-message (given (a .l) (a .e .now)) m (a .w) (ltb (a .w) 46) (c .before .before .before .before .if1 .taken) refl in
+    let q = ap (λ (x : List ℕ). take 6 (carryingAt (a .w)) ++ x) t ∙ of-message (given (linkOf (a .left .now)) (a .e .now)) m (a .w) (ltb (a .w) 46) (c .before .before .before .before .if1 .taken) refl in
     let g = c .before .before .with-message .ensures in
     record {
       answer = omega (arith, g .0, p .answer, ap length q, length-drop 10 e, h .0);
@@ -136,7 +137,7 @@ with-unit-requires c κs =
     let s = S (c .before .before .before) in
     let q : s .args .w ≡ 43 = omega (arith, c .before .if2 .taken, c .before .before .if1 .left) in
     let a = s .args in
-    let h = subst (λ (w : ℕ). 12 + length (bodyOf (meantBy (given (a .l) (a .e .now)) (wordAt w) .carries) (messageOf (a .e .now))) ≤ length (a .out .now)) q (s .pre .2) in
+    let h = subst (λ (w : ℕ). 12 + length (bodyOf (meantBy (given (linkOf (a .left .now)) (a .e .now)) (wordAt w) .carries) (messageOf (a .e .now))) ≤ length (a .out .now)) q (s .pre .3) in
     omega (arith, h)
 
 same-length-2 : tie.Need-same-length-2
@@ -147,14 +148,14 @@ returns-2 c =
     let k : tie.After-slice-known2 = c .before .before .before .before .before .before in
     let a = S k .args in
     let q : a .w ≡ 43 = omega (arith, c .before .before .before .before .if2 .taken, c .before .before .before .before .before .if1 .left) in
-    rw q (of-unit Status.INS (a .w) 43 q (unit-ins (given (a .l) (a .e .now)) (messageOf (a .e .now))) refl (twelve k) (written k) (c .before .before .with-unit .ensures))
+    rw q (of-unit Status.INS (a .w) 43 q (unit-ins (given (linkOf (a .left .now)) (a .e .now)) (messageOf (a .e .now))) refl (twelve k) (written k) (c .before .before .with-unit .ensures))
 
 with-unit-requires-2 : tie.Need-with-unit-requires-2
 with-unit-requires-2 c κs =
     let s = S (c .before .before .before .before) in
     let q : s .args .w ≡ 42 = omega (arith, c .before .if3 .taken, c .before .before .if2 .left) in
     let a = s .args in
-    let h = subst (λ (w : ℕ). 12 + length (bodyOf (meantBy (given (a .l) (a .e .now)) (wordAt w) .carries) (messageOf (a .e .now))) ≤ length (a .out .now)) q (s .pre .2) in
+    let h = subst (λ (w : ℕ). 12 + length (bodyOf (meantBy (given (linkOf (a .left .now)) (a .e .now)) (wordAt w) .carries) (messageOf (a .e .now))) ≤ length (a .out .now)) q (s .pre .3) in
     omega (arith, h)
 
 same-length-3 : tie.Need-same-length-3
@@ -165,7 +166,7 @@ returns-3 c =
     let k : tie.After-slice-known2 = c .before .before .before .before .before .before .before in
     let a = S k .args in
     let q : a .w ≡ 42 = omega (arith, c .before .before .before .before .if3 .taken, c .before .before .before .before .before .if2 .left) in
-    rw q (of-unit Status.NM (a .w) 42 q (unit-nm (given (a .l) (a .e .now)) (messageOf (a .e .now))) refl (twelve k) (written k) (c .before .before .with-unit2 .ensures))
+    rw q (of-unit Status.NM (a .w) 42 q (unit-nm (given (linkOf (a .left .now)) (a .e .now)) (messageOf (a .e .now))) refl (twelve k) (written k) (c .before .before .with-unit2 .ensures))
 
 offered-requires : tie.Need-offered-requires
 offered-requires c κs = search needs
@@ -181,7 +182,7 @@ returns-4 c =
     let k : tie.After-slice-known2 = c .before .before .before .before .before .before .before .before .before in
     let a = S k .args in
     of-param-set (carryingAt (a .w)) (c .before .before .before .offered .result) (eight-long k) (twelve k) (written k) (c .before .before .with-param .ensures)
-    (ap (set (carryingAt (a .w)) 1) (c .before .before .before .offered .ensures) ∙ of-offer (given (a .l) (a .e .now)) (messageOf (a .e .now)) (a .w) (c .before .before .before .before .before .if4 .taken) (c .before .before .before .before .before .before .if3 .left))
+    (ap (set (carryingAt (a .w)) 1) (c .before .before .before .offered .ensures) ∙ of-offer (given (linkOf (a .left .now)) (a .e .now)) (messageOf (a .e .now)) (a .w) (c .before .before .before .before .before .if4 .taken) (c .before .before .before .before .before .before .if3 .left))
 
 shared-slice-read-with-param : tie.Need-shared-slice-read-with-param
 shared-slice-read-with-param c = search needs
@@ -197,16 +198,16 @@ returns-5 c =
     let k : tie.After-slice-known2 = c .before .before .before .before .before .before .before .before .before .before in
     let a = S k .args in
     of-param-set (carryingAt (a .w)) (paramAt (a .e .now)) (eight-long k) (twelve k) (written k) (c .before .before .with-param2 .ensures)
-    (of-param (given (a .l) (a .e .now)) (messageOf (a .e .now)) (a .w) (c .before .before .before .before .before .if5 .taken) (c .before .before .before .before .before .before .if4 .left))
+    (of-param (given (linkOf (a .left .now)) (a .e .now)) (messageOf (a .e .now)) (a .w) (c .before .before .before .before .before .if5 .taken) (c .before .before .before .before .before .before .if4 .left))
 
-shared-slice-read-t34 : tie.Need-shared-slice-read-t34
-shared-slice-read-t34 c = search needs
+shared-slice-read-t31 : tie.Need-shared-slice-read-t31
+shared-slice-read-t31 c = search needs
 
-shared-slice-read-t36 : tie.Need-shared-slice-read-t36
-shared-slice-read-t36 c = search needs
+shared-slice-read-t33 : tie.Need-shared-slice-read-t33
+shared-slice-read-t33 c = search needs
 
-shared-slice-read-t38 : tie.Need-shared-slice-read-t38
-shared-slice-read-t38 c = search needs
+shared-slice-read-t35 : tie.Need-shared-slice-read-t35
+shared-slice-read-t35 c = search needs
 
 with-number-requires : tie.Need-with-number-requires
 with-number-requires c κs = search needs
@@ -222,6 +223,15 @@ returns-6 c =
     let q : a .w ≡ 37 = omega (arith, c .before .before .before .before .before .before .before .if6 .taken, c .before .before .before .before .before .before .before .before .if5 .left) in
     rw q (of-number-set (a .w) 37 (n .a) (n .b) (n .c) q refl (twelve k) (written k) (c .before .before .with-number .ensures) refl)
 
+shared-slice-read-t40 : tie.Need-shared-slice-read-t40
+shared-slice-read-t40 c = search needs
+
+shared-slice-read-t42 : tie.Need-shared-slice-read-t42
+shared-slice-read-t42 c = search needs
+
+shared-slice-read-t44 : tie.Need-shared-slice-read-t44
+shared-slice-read-t44 c = search needs
+
 with-number-requires-2 : tie.Need-with-number-requires-2
 with-number-requires-2 c κs = search needs
 
@@ -229,11 +239,12 @@ same-length-7 : tie.Need-same-length-7
 same-length-7 c = search needs
 
 returns-7 : tie.Need-returns-7
+unfolding linkOf
 returns-7 c =
-    let k : tie.After-slice-known2 = c .before .before .before .before .before .before .before .before .before .before in
+    let k : tie.After-slice-known2 = c .before .before .before .before .before .before .before .before .before .before .before .before .before in
     let a = S k .args in
-    let n = a .l .bsnt .num in
-    let q : a .w ≡ 36 = omega (arith, S k .pre .0, c .before .before .before .before .if6 .left) in
+    let n = linkOf (a .left .now) .bsnt .num in
+    let q : a .w ≡ 36 = omega (arith, S k .pre .0, c .before .before .before .before .before .before .before .if6 .left) in
     rw q (of-number-set (a .w) 36 (n .a) (n .b) (n .c) q refl (twelve k) (written k) (c .before .before .with-number2 .ensures) refl)
 
 pub put-carrying-spec : {M : Type 1} → statement M
@@ -260,12 +271,15 @@ put-carrying-spec =
     with-param-requires-2
     same-length-5
     returns-5
-    shared-slice-read-t34
-    shared-slice-read-t36
-    shared-slice-read-t38
+    shared-slice-read-t31
+    shared-slice-read-t33
+    shared-slice-read-t35
     with-number-requires
     same-length-6
     returns-6
+    shared-slice-read-t40
+    shared-slice-read-t42
+    shared-slice-read-t44
     with-number-requires-2
     same-length-7
     returns-7)

@@ -7,6 +7,7 @@ use Prim.Native.Nat.{ℕ}
 use Rattle.table6.specs.Stored.{wordAt}
 use Rattle.link.specs.Stored.{meantBy}
 use Rattle.octet.specs.Octets.{over}
+use Rattle.record.specs.LinkRecord.{linkOf}
 use Rattle.event.specs.Frame.{messageOf}
 use Rattle.signal.specs.Writing.{given}
 use Rattle.signal.proofs.SignalRecord.{with-front}
@@ -27,9 +28,9 @@ same-length c = search needs
 
 returns : tie.Need-returns
 returns c =
-    let s = c .before .before .before .before .before .before .before .before .before .before .before in
+    let s = c .before .before .before .before .before .before .before .before .before .before .before .before in
     let a = s .args in
-    with-front (a .e .now) (messageOf (a .e .now)) (meantBy (given (a .l) (a .e .now)) (wordAt (a .w))) (omega (arith, c .before .before .before .before .before .before .before .before .before .shared-slice-known .given 3))
+    with-front (a .e .now) (messageOf (a .e .now)) (meantBy (given (linkOf (a .left .now)) (a .e .now)) (wordAt (a .w))) (omega (arith, c .before .before .before .before .before .before .before .before .before .shared-slice-known2 .given 3))
     (c .before .before .before .before .before .before .put .ensures ∙ ap (λ (f : List ℕ). over f (a .out .now)) (s .pre .1)) (c .before .before .put-carrying .ensures)
 
 pub put-other-spec : {M : Type 1} → statement M
