@@ -37,13 +37,13 @@ pub fresh-refusals-untouched : FreshRefusalsUntouched
 fresh-refusals-untouched t n1 = either-way t n1 (λ z. 1 ≤ z .answer .refusal → z .table ≡ t) (λ x e h. refl) (λ p h. absurd (omega arith))
 
 -- record k of copies
-copy-at : (r : List ℕ) → length r ≡ 16 → (n k : ℕ) → k < n → recordAt (copies n r) k ≡ r
+copy-at : (r : List ℕ) → length r ≡ 20 → (n k : ℕ) → k < n → recordAt (copies n r) k ≡ r
 copy-at r e zero k h = absurd (omega arith)
-copy-at r e (suc n) zero h = take-at r (copies n r) 16 e
+copy-at r e (suc n) zero h = take-at r (copies n r) 20 e
 copy-at r e (suc n) (suc k) h =
-    let p : 16 * suc k ≡ 16 + 16 * k = omega arith in
-    ap (λ (i : ℕ). take 16 (drop i (r ++ copies n r))) p
-    ∙ ap (take 16) (sym (drop-drop (16 * k) 16 (r ++ copies n r)) ∙ ap (drop (16 * k)) (drop-at r (copies n r) 16 e))
+    let p : 20 * suc k ≡ 20 + 20 * k = omega arith in
+    ap (λ (i : ℕ). take 20 (drop i (r ++ copies n r))) p
+    ∙ ap (take 20) (sym (drop-drop (20 * k) 20 (r ++ copies n r)) ∙ ap (drop (20 * k)) (drop-at r (copies n r) 20 e))
     ∙ copy-at r e n k (omega arith)
 
 pub all-fresh : AllFresh
@@ -59,7 +59,7 @@ pub fresh-well-formed : FreshWellFormed
 fresh-well-formed t n1 k h l =
     ap wellFormed (all-fresh t n1 k h l)
     ∙ either-way t n1 (λ z. z .answer .refusal ≡ 0 → wellFormed (octetsOf (freshLink n1)) ≡ true) (λ x e h. absurd (omega (arith, number-above x)))
-    (λ p h. packed-well (freshLink n1) (above n1 (clear (freshChecks t n1) p .1 .0), λ e. refl))
+    (λ p h. packed-well (freshLink n1) (above n1 (clear (freshChecks t n1) p .1 .0), λ e. refl, refl))
     h
 
 -- 11 exactly past a good table, with n1 0

@@ -28,7 +28,7 @@ use Rattle.step.specs.Checks.{number}
 use Rattle.step.specs.Step.{badTable, records, recordAt, idle, isIllegal, linkFor, checks, Outcome, performed, outcome, stepCall}
 use Rattle.sscf.specs.Burst.{written, left, Single, singly, eventsOf, numbersOf, writtenBy, signalsBy, tableAfter, BurstOutcome, bursting, burstAnswered, burstChecks, brokenAt, came, burstCall}
 use Rattle.sscf.specs.BurstLaws.{BurstRefusalsUntouched, BurstUntouched, BurstRestUntouched, NamedByNone, BurstOthersUntouched, OneEvent, Stops, StopsOnly, NoEvents, AlwaysRoom, AlwaysPlace, endToEnd, Events, then, together, SplitInTwo, BrokenStands, BrokenRefused, AskedBefore}
-use Rattle.step.proofs.Untouched.{number-above, same-lengths, rest-untouched, others-untouched, at-most-4192, at-most-twelvefold}
+use Rattle.step.proofs.Untouched.{number-above, same-lengths, rest-untouched, others-untouched, at-most-4240, at-most-twelvefold}
 use Rattle.step.proofs.Taken.{field-checks, step-refused}
 use Rattle.sscf.proofs.Singles.{no-frame, a-frame, front-long, found, found-one, few-frames, written-length, output-is, no-room, single, one-more, each-call, events-and, written-and, numbers-and, signals-and, table-and, numbers-length, sound-there, as-good}
 use Rattle.sscf.proofs.BurstCall.{burst-refused, burst-passed, Open, both, either-burst}
@@ -55,8 +55,8 @@ burst-refusals-untouched t es o l =
 left-is : (t e o : List ℕ) → left (stepCall t e o) ≡ drop (length (written (stepCall t e o))) o
 left-is t e o = rest-untouched t e o ∙ ap (λ (n : ℕ). drop n o) (sym (written-length t e o))
 
-fits-in : (t e o : List ℕ) → 4192 ≤ length o → length (written (stepCall t e o)) ≤ length o
-fits-in t e o h = omega (arith, written-length t e o, at-most-4192 t e o)
+fits-in : (t e o : List ℕ) → 4240 ≤ length o → length (written (stepCall t e o)) ≤ length o
+fits-in t e o h = omega (arith, written-length t e o, at-most-4240 t e o)
 
 left-long : (t e o : List ℕ) → length (left (stepCall t e o)) ≡ length o - length (written (stepCall t e o))
 left-long t e o = ap length (left-is t e o) ∙ length-drop (length (written (stepCall t e o))) o
@@ -67,7 +67,7 @@ pub record Calls (fs : List (List ℕ)) (t o : List ℕ) (s : List Single) : Typ
   pub few : length s ≤ length fs
   pub fit : length (writtenBy s) ≤ length o
   pub table : length (tableAfter t s) ≡ length t
-  pub why : (length s ≡ length fs) ⊎ (length o - length (writtenBy s) < 4192)
+  pub why : (length s ≡ length fs) ⊎ (length o - length (writtenBy s) < 4240)
 
 pub calls : (fs : List (List ℕ)) (t o : List ℕ) → Calls fs t o (singly fs t o)
 calls =
@@ -232,10 +232,10 @@ module _ (t es o : List ℕ) where
   Why b =
       ((length (eventsOf S) ≡ length es) × (b ≡ 0))
       ⊎ (((length (eventsOf S) < length es) × (sound rest ≡ false) × (b ≡ 2))
-      ⊎ ((sound rest ≡ true) × (length o - length (writtenBy S) < 4192) × (b ≡ 0)))
+      ⊎ ((sound rest ≡ true) × (length o - length (writtenBy S) < 4240) × (b ≡ 0)))
 
   -- a sound frame is left: then not all were taken, for want of room
-  short-of-room : sound rest ≡ true → length o - length (writtenBy S) < 4192
+  short-of-room : sound rest ≡ true → length o - length (writtenBy S) < 4240
   short-of-room s = ⊎-elim (λ x. absurd (omega (arith, ap length (sym (all-done x) ∙ a-frame rest s)))) (λ y. y) (calls (frames es) t o .why)
 
   why-stops : Why (brokenAt rest)
@@ -257,9 +257,9 @@ no-events t o l good =
     passed-is t [] o l (record { good = good; places = omega (arith, ap length f) }) ∙ ap (λ (fs : List (List ℕ)). came (singly fs t o) t [] o l) f
 
 -- with room for each all are made
-room-for-each : (fs : List (List ℕ)) (t o : List ℕ) → 4192 + 12 * length (endToEnd fs) ≤ length o → length (singly fs t o) ≡ length fs
+room-for-each : (fs : List (List ℕ)) (t o : List ℕ) → 4240 + 12 * length (endToEnd fs) ≤ length o → length (singly fs t o) ≡ length fs
 room-for-each =
-    each-call (λ fs t o s. 4192 + 12 * length (endToEnd fs) ≤ length o → length s ≡ length fs) (λ t o h. refl) (λ e fs t o r h. absurd (omega (arith, r, h)))
+    each-call (λ fs t o s. 4240 + 12 * length (endToEnd fs) ≤ length o → length s ≡ length fs) (λ t o h. refl) (λ e fs t o r h. absurd (omega (arith, r, h)))
     (λ e fs t o s r p h. ap suc (p (omega (arith, h, left-long t e o, written-length t e o, at-most-twelvefold t e o, length-append e (endToEnd fs)))))
 
 all-within : (es : List ℕ) → length (endToEnd (frames es)) ≤ length es
@@ -267,7 +267,7 @@ all-within es = omega (arith, from (length (frames es)) es (frames es) refl .wit
 
 pub always-room : AlwaysRoom
 always-room t es o l =
-    either-burst t es o l (λ c. c .answer .refusal ≡ 0 → 4192 + 12 * length es ≤ length o → c .answer .taken ≡ length (frames es)) (λ x e h. absurd (omega (arith, number-above x, h)))
+    either-burst t es o l (λ c. c .answer .refusal ≡ 0 → 4240 + 12 * length es ≤ length o → c .answer .taken ≡ length (frames es)) (λ x e h. absurd (omega (arith, number-above x, h)))
     (λ p h g. room-for-each (frames es) t o (omega (arith, g, all-within es)))
 
 pub always-place : AlwaysPlace
@@ -420,7 +420,7 @@ broken-refused t es o l p h b =
   where
     told : ((burstCall t es o l .answer .at ≡ length es) × (burstCall t es o l .answer .broken ≡ 0))
         ⊎ (((burstCall t es o l .answer .at < length es) × (sound (drop (burstCall t es o l .answer .at) es) ≡ false) × (burstCall t es o l .answer .broken ≡ 2))
-        ⊎ ((sound (drop (burstCall t es o l .answer .at) es) ≡ true) × (length o - burstCall t es o l .answer .octets < 4192) × (burstCall t es o l .answer .broken ≡ 0)))
+        ⊎ ((sound (drop (burstCall t es o l .answer .at) es) ≡ true) × (length o - burstCall t es o l .answer .octets < 4240) × (burstCall t es o l .answer .broken ≡ 0)))
         → sound (drop (burstCall t es o l .answer .at) es) ≡ false
     told = ⊎-elim (λ x. absurd (omega (arith, b, x .1))) (⊎-elim (λ y. y .1) (λ z. absurd (omega (arith, b, z .2))))
 
@@ -447,15 +447,15 @@ between false passed false false true h = inr (inl (omega arith, omega arith))
 between false passed false false false true = inr (inl (omega arith, omega arith))
 between false passed false false false false = tt
 
-mid : (t e : List ℕ) (room : ℕ) → badTable t ≡ false → framed e ≡ true → 4192 ≤ room → Mid (first (checks t e room))
+mid : (t e : List ℕ) (room : ℕ) → badTable t ≡ false → framed e ≡ true → 4240 ≤ room → Mid (first (checks t e room))
 mid t e room a b c =
     rw (a, b)
     (subst (λ (v : Verdict Refusal). Mid (cond (unknown (codedIn e)) (refused Refusal.Code) v)) (sym (field-checks t e room))
-    (rw (le-ltb room 4192 c)
+    (rw (le-ltb room 4240 c)
     (between (unknown (codedIn e)) (first (fieldChecks (codeAt e) (fieldsIn e))) (leb (records t) (linkAt e)) (not (wellFormed (recordAt t (linkAt e)))) (idle (linkFor t e) (codeAt e))
     (isIllegal (machine.stepOf (linkFor t e) (eventOf e))))))
 
-late-call : (t e o : List ℕ) → badTable t ≡ false → framed e ≡ true → 4192 ≤ length o → Late (stepCall t e o .answer .refusal)
+late-call : (t e o : List ℕ) → badTable t ≡ false → framed e ≡ true → 4240 ≤ length o → Late (stepCall t e o .answer .refusal)
 unfolding stepCall
 late-call t e o a b c = by-verdict (first (checks t e (length o))) (mid t e (length o) a b c) where
   by-cell : (w : machine.Outcome) → let z = performed w t (linkAt e) (messageOf e) o in Late (z .answer .refusal)

@@ -21,7 +21,7 @@ use Rattle.step.specs.declared.Answer.{Answer}
 use Rattle.step.specs.Step.{badTable, Outcome, answering, stepCall}
 use Rattle.sscf.specs.Burst.{written, left, Single, singly, eventsOf, numbersOf, writtenBy, signalsBy, tableAfter, bursting, burstAnswered, brokenAt, came}
 use Rattle.step.proofs.Taken.{taken, room-for}
-use Rattle.step.proofs.Untouched.{either-way, same-lengths, rest-untouched, at-most-4192}
+use Rattle.step.proofs.Untouched.{either-way, same-lengths, rest-untouched, at-most-4240}
 
 -- THE FRAMES, as the code finds them
 
@@ -122,28 +122,28 @@ no-more-signals t e o =
     either-way t e o (λ z. z .answer .signals ≤ z .answer .octets) (λ x. omega arith) (λ next signals p m. counted (linkAt e) (messageOf e) signals)
 
 -- THE CALLS
-pub no-room : (fs : List (List ℕ)) (t o : List ℕ) → length o < 4192 → singly fs t o ≡ []
+pub no-room : (fs : List (List ℕ)) (t o : List ℕ) → length o < 4240 → singly fs t o ≡ []
 no-room [] t o h = refl
-no-room (e ∷ fs) t o h = rw (lt-ltb (length o) 4192 h)
+no-room (e ∷ fs) t o h = rw (lt-ltb (length o) 4240 h)
 
 abbrev pub single : List ℕ → List ℕ → List ℕ → Single
 single t e o = record { event = e; after = stepCall t e o }
 
-pub one-more : (fs : List (List ℕ)) (t e o : List ℕ) → 4192 ≤ length o → singly (e ∷ fs) t o ≡ single t e o ∷ singly fs (stepCall t e o .table) (left (stepCall t e o))
-one-more fs t e o h = rw (le-ltb (length o) 4192 h)
+pub one-more : (fs : List (List ℕ)) (t e o : List ℕ) → 4240 ≤ length o → singly (e ∷ fs) t o ≡ single t e o ∷ singly fs (stepCall t e o .table) (left (stepCall t e o))
+one-more fs t e o h = rw (le-ltb (length o) 4240 h)
 
 -- THE SINGLE CALLS of frames are none, for want of frames or of room, or one and those behind it.
-module _ (P : List (List ℕ) → List ℕ → List ℕ → List Single → Type 0) (none : (t o : List ℕ) → P [] t o []) (short : (e : List ℕ) (fs : List (List ℕ)) (t o : List ℕ) → length o < 4192 → P (e ∷ fs) t o [])
-    (more : (e : List ℕ) (fs : List (List ℕ)) (t o : List ℕ) (s : List Single) → 4192 ≤ length o → P fs (stepCall t e o .table) (left (stepCall t e o)) s → P (e ∷ fs) t o (single t e o ∷ s)) where
+module _ (P : List (List ℕ) → List ℕ → List ℕ → List Single → Type 0) (none : (t o : List ℕ) → P [] t o []) (short : (e : List ℕ) (fs : List (List ℕ)) (t o : List ℕ) → length o < 4240 → P (e ∷ fs) t o [])
+    (more : (e : List ℕ) (fs : List (List ℕ)) (t o : List ℕ) (s : List Single) → 4240 ≤ length o → P fs (stepCall t e o .table) (left (stepCall t e o)) s → P (e ∷ fs) t o (single t e o ∷ s)) where
   by-room : (e : List ℕ) (fs : List (List ℕ)) (t o : List ℕ) (s : List Single) → P fs (stepCall t e o .table) (left (stepCall t e o)) s →
-      (b : Bool) → ltb (length o) 4192 ≡ b → P (e ∷ fs) t o (cond b [] (single t e o ∷ s))
-  by-room e fs t o s p true h = short e fs t o (ltb-true (length o) 4192 h)
-  by-room e fs t o s p false h = more e fs t o s (ltb-false (length o) 4192 h) p
+      (b : Bool) → ltb (length o) 4240 ≡ b → P (e ∷ fs) t o (cond b [] (single t e o ∷ s))
+  by-room e fs t o s p true h = short e fs t o (ltb-true (length o) 4240 h)
+  by-room e fs t o s p false h = more e fs t o s (ltb-false (length o) 4240 h) p
 
   pub each-call : (fs : List (List ℕ)) (t o : List ℕ) → P fs t o (singly fs t o)
   each-call [] t o = none t o
   each-call (e ∷ fs) t o =
-      by-room e fs t o (singly fs (stepCall t e o .table) (left (stepCall t e o))) (each-call fs (stepCall t e o .table) (left (stepCall t e o))) (ltb (length o) 4192) refl
+      by-room e fs t o (singly fs (stepCall t e o .table) (left (stepCall t e o))) (each-call fs (stepCall t e o .table) (left (stepCall t e o))) (ltb (length o) 4240) refl
 
 -- WHAT THEY COME TO, with some behind others
 pub events-and : (a b : List Single) → eventsOf (a ++ b) ≡ eventsOf a ++ eventsOf b
@@ -232,7 +232,7 @@ ends {t₀} {es} {o₀} {l₀} {t} {o} {l} {n} {at} {put} {count} r b none e =
 pub none-left : (es t o : List ℕ) → sound es ≡ false → singly (frames es) t o ≡ []
 none-left es t o s = ap (λ (fs : List (List ℕ)). singly fs t o) (no-frame es s)
 
-pub no-room-left : {t₀ es o₀ l₀ t o l : List ℕ} {n at put count : ℕ} (r : Reached t₀ es o₀ l₀ t o l n at put count) → length o - put < 4192 → singly (frames (drop at es)) t (drop put o) ≡ []
+pub no-room-left : {t₀ es o₀ l₀ t o l : List ℕ} {n at put count : ℕ} (r : Reached t₀ es o₀ l₀ t o l n at put count) → length o - put < 4240 → singly (frames (drop at es)) t (drop put o) ≡ []
 no-room-left {es = es} {t = t} {o = o} {at = at} {put = put} r h = no-room (frames (drop at es)) t (drop put o) (omega (arith, h, length-drop put o))
 
 pub broken-there : (rest : List ℕ) → frames rest ≡ [] → 1 ≤ length rest → 2 ≡ brokenAt rest
@@ -272,7 +272,7 @@ module _ {t₀ es o₀ l₀ t o l : List ℕ} {n at put count : ℕ} (r : Reache
   pub within : at + (12 + lengthAt (drop at es)) ≤ length es
   within = omega (arith, well-formed (drop at es) here .within, length-drop at es, r .at-in)
 
-  module _ (end : ℕ) (end-is : end ≡ at + (12 + lengthAt (drop at es))) (room : 4192 ≤ length o - put) (places : length (frames es) ≤ length l₀) (a : Answer) (t′ y : List ℕ)
+  module _ (end : ℕ) (end-is : end ≡ at + (12 + lengthAt (drop at es))) (room : 4240 ≤ length o - put) (places : length (frames es) ≤ length l₀) (a : Answer) (t′ y : List ℕ)
       (q : answering a t′ y ≡ stepCall t (take (end - at) (drop at es)) (take (length o - put) (drop put o))) where
     abbrev pub C : Outcome
     C = stepCall t (front (drop at es)) (drop put o)
@@ -304,7 +304,7 @@ module _ {t₀ es o₀ l₀ t o l : List ℕ} {n at put count : ℕ} (r : Reache
     put-is′ = omega (arith, r .put-is, octets-long, length-append (writtenBy (r .done)) (written C), ap length written-is)
 
     fits : put + a .octets ≤ length o₀
-    fits = omega (arith, room, r .same-o, ap (λ (b : Answer). b .octets) answer-is, at-most-4192 t (front (drop at es)) (drop put o))
+    fits = omega (arith, room, r .same-o, ap (λ (b : Answer). b .octets) answer-is, at-most-4240 t (front (drop at es)) (drop put o))
 
     few′ : count + a .signals ≤ put + a .octets
     few′ =
@@ -336,7 +336,7 @@ module _ {t₀ es o₀ l₀ t o l : List ℕ} {n at put count : ℕ} (r : Reache
 
     whole′ : singly (frames es) t₀ o₀ ≡ done′ ++ singly (frames (drop end es)) t′ (drop (put + a .octets) O′)
     whole′ =
-        let lr : 4192 ≤ length (drop put o) = omega (arith, length-drop put o, room) in
+        let lr : 4240 ≤ length (drop put o) = omega (arith, length-drop put o, room) in
         r .whole
         ∙ ap (λ (fs : List (List ℕ)). r .done ++ singly fs t (drop put o)) frames-are
         ∙ ap (λ (s : List Single). r .done ++ s) (one-more (frames (drop end es)) t (front (drop at es)) (drop put o) lr)

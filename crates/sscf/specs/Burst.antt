@@ -26,7 +26,7 @@ pub record Single : Type 0 where
   pub event : List ℕ
   pub after : Outcome
 
--- One after the other, each on the table that the one before left and with what it left of the output, while that is 4,192 octets at least.
+-- One after the other, each on the table that the one before left and with what it left of the output, while that is 4,240 octets at least.
 abbrev pub singly : List (List ℕ) → List ℕ → List ℕ → List Single
 singly [] t o = []
 singly (e ∷ others) t o = let c = stepCall t e o in cond (ltb (length o) outputOctets) [] (record { event = e; after = c } ∷ singly others (c .table) (left c))

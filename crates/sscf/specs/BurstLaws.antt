@@ -58,7 +58,7 @@ StopsOnly = (t es o l : List ℕ) → burstCall t es o l .answer .refusal ≡ 0 
 abbrev pub NoEvents : Type 0
 NoEvents = (t o l : List ℕ) → badTable t ≡ false → burstCall t [] o l ≡ bursting (burstAnswered 0 0 0 0 0 0) t o l
 
--- With 4,192 octets of output and twelve times those of the events beside them it takes all sound ones before the first broken frame.
+-- With 4,240 octets of output and twelve times those of the events beside them it takes all sound ones before the first broken frame.
 abbrev pub AlwaysRoom : Type 0
 AlwaysRoom = (t es o l : List ℕ) → burstCall t es o l .answer .refusal ≡ 0 → outputOctets + 12 * length es ≤ length o → burstCall t es o l .answer .taken ≡ length (frames es)
 

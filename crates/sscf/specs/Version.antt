@@ -5,4 +5,4 @@ abbrev pub numbered : (major minor patch : ℕ) → ℕ
 numbered major minor patch = 1000000 * major + 1000 * minor + patch
 
 abbrev pub version : ℕ
-version = numbered 0 6 0
+version = numbered 0 7 0

@@ -139,10 +139,10 @@ pub extern "C" fn sscf_fresh(table: &mut [u8], n1: u16) -> FreshAnswer
     }
 }
 
-// The version, 0.6.0.
+// The version, 0.7.0.
 #[no_mangle]
 pub extern "C" fn sscf_version() -> u32
     ensures { λ a. ⌜ a ≡ version ⌝ }
 {
-    6000
+    7000
 }

@@ -14,7 +14,7 @@ use Rattle.link.specs.Step as machine
 use Rattle.link.specs.Kept.{Keeps, After}
 use Rattle.link.proofs.Kept.{kept}
 use Rattle.octet.specs.Octets.{over, putAt}
-use Rattle.record.specs.LinkRecord.{octetsOf}
+use Rattle.record.specs.LinkRecord.{octetsOf, wellFormed}
 use Rattle.event.specs.Frame.{EV, linkAt, codeAt, messageOf}
 use Rattle.event.specs.Fields.{fieldChecks}
 use Rattle.event.specs.EventRecord.{framed, eventOf, fieldsIn}
@@ -22,7 +22,7 @@ use Rattle.signal.specs.SignalRecord.{joined}
 use Rattle.event.proofs.Frame.{sound, message-length}
 use Rattle.signal.proofs.SignalRecord.{joined-small}
 use Rattle.step.specs.declared.Refusal.{Refusal}
-use Rattle.step.specs.Step.{records, linkFor, checks, answered, answering, refusedBy, stepCall}
+use Rattle.step.specs.Step.{records, recordAt, linkFor, checks, answered, answering, refusedBy, stepCall}
 
 -- past the code the fields decide, and where they pass the checks behind them
 pub field-checks : (t e : List ℕ) (room : ℕ) →
@@ -32,7 +32,8 @@ field-checks t e room = first-by Refusal.Field (fieldChecks (codeAt e) (fieldsIn
 pub record Taken (t e : List ℕ) (room : ℕ) : Type 0 where
   pub sound : framed e ≡ true
   pub inside : linkAt e < records t
-  pub wide : 4192 ≤ room
+  pub formed : wellFormed (recordAt t (linkAt e)) ≡ true
+  pub wide : 4240 ≤ room
 
 pub taken : (t e : List ℕ) (room : ℕ) → first (checks t e room) ≡ passed → Taken t e room
 taken t e room h =
@@ -40,7 +41,8 @@ taken t e room h =
     record {
       sound = not-false (framed e) (c .1 .0);
       inside = leb-false (records t) (linkAt e) (c .1 .1 .1 .1 .1 .1 .1 .1 .1 .0);
-      wide = ltb-false room 4192 (c .1 .1 .1 .1 .1 .1 .1 .1 .1 .1 .1 .1 .1 .0);
+      formed = not-false (wellFormed (recordAt t (linkAt e))) (c .1 .1 .1 .1 .1 .1 .1 .1 .1 .1 .0);
+      wide = ltb-false room 4240 (c .1 .1 .1 .1 .1 .1 .1 .1 .1 .1 .1 .1 .1 .0);
     }
 
 pub message-small : (e : List ℕ) → framed e ≡ true → length (messageOf e) ≤ 4096
@@ -54,10 +56,10 @@ pub made-after : (t e : List ℕ) {next : Link} {signals : List Signal} → Make
 made-after t e h = subst (Keeps (linkFor t e)) h (kept (linkFor t e) (eventOf e))
 
 -- all signals have room
-pub room-for : (t e : List ℕ) {next : Link} {signals : List Signal} → framed e ≡ true → Makes t e next signals → length (joined (linkAt e) (messageOf e) signals) ≤ 4192
+pub room-for : (t e : List ℕ) {next : Link} {signals : List Signal} → framed e ≡ true → Makes t e next signals → length (joined (linkAt e) (messageOf e) signals) ≤ 4240
 room-for t e {next} {signals} f h =
     let a = made-after t e h in
-    joined-small (linkAt e) (messageOf e) signals (a .five) (a .one-message) (message-small e f)
+    joined-small (linkAt e) (messageOf e) signals (a .eight) (a .one-message) (message-small e f)
 
 pub step-refused : (t e o : List ℕ) (r : Refusal) → first (checks t e (length o)) ≡ refused r → stepCall t e o ≡ refusedBy r t o
 unfolding stepCall
@@ -65,6 +67,6 @@ step-refused t e o r h = rw h
 
 pub step-accepted : (t e o : List ℕ) {next : Link} {signals : List Signal} → first (checks t e (length o)) ≡ passed → Makes t e next signals →
     stepCall t e o
-    ≡ answering (answered 0 (length (joined (linkAt e) (messageOf e) signals)) (length signals) 0) (putAt t (16 * linkAt e) (octetsOf next)) (over (joined (linkAt e) (messageOf e) signals) o)
+    ≡ answering (answered 0 (length (joined (linkAt e) (messageOf e) signals)) (length signals) 0) (putAt t (20 * linkAt e) (octetsOf next)) (over (joined (linkAt e) (messageOf e) signals) o)
 unfolding stepCall
 step-accepted t e o p h = rw (p, h)

@@ -43,7 +43,7 @@ refusal-back r q h =
     let d : n / 281474976710656 ≡ q = omega arith in
     (λ i. answered (a i) (b i) (c i) (d i))
 
-pub acceptance-back : (octets signals : ℕ) → octets ≤ 4192 → signals < 256 → toldBy (octets * 4294967296 + signals * 65536) ≡ answered 0 octets signals 0
+pub acceptance-back : (octets signals : ℕ) → octets ≤ 4240 → signals < 256 → toldBy (octets * 4294967296 + signals * 65536) ≡ answered 0 octets signals 0
 acceptance-back octets signals g h =
     let n = octets * 4294967296 + signals * 65536 in
     let a : n % 65536 ≡ 0 = omega arith in

@@ -26,14 +26,14 @@ use Rattle.event.specs.declared.Fault.{Fault}
 use Rattle.step.specs.declared.Refusal.{Refusal}
 use Rattle.step.specs.Checks.{number}
 use Rattle.step.specs.Step.{recordAt, linkFor, checks, Outcome, answered, answering, refusedBy, performed, outcome, stepCall}
-use Rattle.step.specs.Untouched.{RefusalsUntouched, OthersUntouched, RestUntouched, AtMost4192, AtMostTwelvefold, SameLengths, Refused4191, Taken4192, Written, AcceptedWritten, StaysWellFormed}
+use Rattle.step.specs.Untouched.{RefusalsUntouched, OthersUntouched, RestUntouched, AtMost4240, AtMostTwelvefold, SameLengths, Refused4239, Taken4240, Written, AcceptedWritten, StaysWellFormed}
 use Rattle.step.proofs.Places.{inside}
 use Rattle.step.proofs.Taken.{taken, Makes, made-after, room-for, step-accepted}
 
 -- what an accepted step comes to
 abbrev done : List ℕ → List ℕ → List ℕ → Link → List Signal → Outcome
 done t e o next signals =
-    answering (answered 0 (length (joined (linkAt e) (messageOf e) signals)) (length signals) 0) (putAt t (16 * linkAt e) (octetsOf next)) (over (joined (linkAt e) (messageOf e) signals) o)
+    answering (answered 0 (length (joined (linkAt e) (messageOf e) signals)) (length signals) 0) (putAt t (20 * linkAt e) (octetsOf next)) (over (joined (linkAt e) (messageOf e) signals) o)
 
 -- a step is refused, or it is accepted
 module _ (t e o : List ℕ) (P : Outcome → Type 0) (r : (x : Refusal) → P (refusedBy x t o))
@@ -74,9 +74,9 @@ rest-untouched t e o =
     either-way t e o (λ z. drop (z .answer .octets) (z .output) ≡ drop (z .answer .octets) o) (λ x. refl)
     (λ next signals p m. over-rest (joined (linkAt e) (messageOf e) signals) o)
 
-pub at-most-4192 : AtMost4192
-at-most-4192 t e o =
-    either-way t e o (λ z. z .answer .octets ≤ 4192) (λ x. omega arith) (λ next signals p m. room-for t e (taken t e (length o) p .sound) m)
+pub at-most-4240 : AtMost4240
+at-most-4240 t e o =
+    either-way t e o (λ z. z .answer .octets ≤ 4240) (λ x. omega arith) (λ next signals p m. room-for t e (taken t e (length o) p .sound) m)
 
 pub at-most-twelvefold : AtMostTwelvefold
 at-most-twelvefold t e o =
@@ -84,13 +84,13 @@ at-most-twelvefold t e o =
     (λ next signals p m.
     let f = taken t e (length o) p .sound in
     let a = made-after t e m in
-    omega (arith, joined-within (linkAt e) (messageOf e) signals (a .five) (a .one-message), message-length EV e f, sound EV e f .follows))
+    omega (arith, joined-within (linkAt e) (messageOf e) signals (a .eight) (a .one-message), message-length EV e f, sound EV e f .follows))
 
 pub same-lengths : SameLengths
 same-lengths t e o =
     either-way t e o (λ z. (length (z .table) ≡ length t) × (length (z .output) ≡ length o)) (λ x. (refl, refl))
     (λ next signals p m. let k = taken t e (length o) p in (
-      length-put t (octetsOf next) (16 * linkAt e) (omega (arith, octets-length next, inside t (linkAt e) (k .inside))),
+      length-put t (octetsOf next) (20 * linkAt e) (omega (arith, octets-length next, inside t (linkAt e) (k .inside))),
       length-over (joined (linkAt e) (messageOf e) signals) o (omega (arith, room-for t e (k .sound) m, k .wide)),
     ))
 
@@ -102,15 +102,15 @@ apart k j h = by (ltb k j) refl where
   by true e = inl (ltb-true k j e)
   by false e = inr (omega (arith, ltb-false k j e, h))
 
-other-record : (t r : List ℕ) (j k : ℕ) → length r ≡ 16 → 16 * j ≤ length t → (k < j) ⊎ (j < k) → recordAt (putAt t (16 * j) r) k ≡ recordAt t k
-other-record t r j k n h (inl l) = put-before t r (16 * j) (16 * k) 16 h (omega arith)
-other-record t r j k n h (inr l) = ap (take 16) (put-after t r (16 * j) (16 * k) h (omega arith))
+other-record : (t r : List ℕ) (j k : ℕ) → length r ≡ 20 → 20 * j ≤ length t → (k < j) ⊎ (j < k) → recordAt (putAt t (20 * j) r) k ≡ recordAt t k
+other-record t r j k n h (inl l) = put-before t r (20 * j) (20 * k) 20 h (omega arith)
+other-record t r j k n h (inr l) = ap (take 20) (put-after t r (20 * j) (20 * k) h (omega arith))
 
-this-record : (t r : List ℕ) (j : ℕ) → length r ≡ 16 → 16 * j ≤ length t → recordAt (putAt t (16 * j) r) j ≡ r
-this-record t r j n h = ap (λ (i : ℕ). take i (drop (16 * j) (putAt t (16 * j) r))) (sym n) ∙ put-there t r (16 * j) h
+pub this-record : (t r : List ℕ) (j : ℕ) → length r ≡ 20 → 20 * j ≤ length t → recordAt (putAt t (20 * j) r) j ≡ r
+this-record t r j n h = ap (λ (i : ℕ). take i (drop (20 * j) (putAt t (20 * j) r))) (sym n) ∙ put-there t r (20 * j) h
 
 -- the named record has its place in the table
-placed : (t e o : List ℕ) → first (checks t e (length o)) ≡ passed → 16 * linkAt e ≤ length t
+placed : (t e o : List ℕ) → first (checks t e (length o)) ≡ passed → 20 * linkAt e ≤ length t
 placed t e o p = omega (arith, inside t (linkAt e) (taken t e (length o) p .inside))
 
 pub others-untouched : OthersUntouched
@@ -132,19 +132,19 @@ accepted-written t e o =
       packed = this-record t (octetsOf next) (linkAt e) (octets-length next) (placed t e o p);
     })
 
-pub refused-4191 : Refused4191
-refused-4191 t e o h =
+pub refused-4239 : Refused4239
+refused-4239 t e o h =
     either-way t e o (λ z. 1 ≤ z .answer .refusal) number-above (λ next signals p m. absurd (omega (arith, taken t e (length o) p .wide)))
 
 -- the room is the last check
-other-room : (t e : List ℕ) (a b : ℕ) → 4192 ≤ b → first (checks t e a) ≡ passed → first (checks t e b) ≡ passed
+other-room : (t e : List ℕ) (a b : ℕ) → 4240 ≤ b → first (checks t e a) ≡ passed → first (checks t e b) ≡ passed
 other-room t e a b w h =
     let c = clear (checks t e a) h in
     none (checks t e b)
-    (c .0, (c .1 .0, (c .1 .1 .0, (c .1 .1 .1 .0, (c .1 .1 .1 .1 .0, (c .1 .1 .1 .1 .1 .0, (c .1 .1 .1 .1 .1 .1 .0, (c .1 .1 .1 .1 .1 .1 .1 .0, (c .1 .1 .1 .1 .1 .1 .1 .1 .0, (c .1 .1 .1 .1 .1 .1 .1 .1 .1 .0, (c .1 .1 .1 .1 .1 .1 .1 .1 .1 .1 .0, (c .1 .1 .1 .1 .1 .1 .1 .1 .1 .1 .1 .0, (c .1 .1 .1 .1 .1 .1 .1 .1 .1 .1 .1 .1 .0, (le-ltb b 4192 w, tt))))))))))))))
+    (c .0, (c .1 .0, (c .1 .1 .0, (c .1 .1 .1 .0, (c .1 .1 .1 .1 .0, (c .1 .1 .1 .1 .1 .0, (c .1 .1 .1 .1 .1 .1 .0, (c .1 .1 .1 .1 .1 .1 .1 .0, (c .1 .1 .1 .1 .1 .1 .1 .1 .0, (c .1 .1 .1 .1 .1 .1 .1 .1 .1 .0, (c .1 .1 .1 .1 .1 .1 .1 .1 .1 .1 .0, (c .1 .1 .1 .1 .1 .1 .1 .1 .1 .1 .1 .0, (c .1 .1 .1 .1 .1 .1 .1 .1 .1 .1 .1 .1 .0, (le-ltb b 4240 w, tt))))))))))))))
 
-pub taken-4192 : Taken4192
-taken-4192 t e o p h n =
+pub taken-4240 : Taken4240
+taken-4240 t e o p h n =
     either-way t e o (λ z. z .answer .refusal ≡ 0 → stepCall t e p .answer ≡ z .answer) (λ x h. absurd (omega (arith, number-above x)))
     (λ next signals q m h. ap (λ (z : Outcome). z .answer) (step-accepted t e p (other-room t e (length o) (length p) (omega arith) q) m))
     h
@@ -154,16 +154,16 @@ good-next : (t e : List ℕ) {next : Link} {signals : List Signal} → Makes t e
 good-next t e m w =
     let a = made-after t e m in
     let g = unpacked-good (recordAt t (linkAt e)) w in
-    (omega (arith, a .n1, g .0), a .bsnt (g .1))
+    (omega (arith, a .n1, g .0), a .bsnt (g .1), a .last (g .2))
 
 pub stays-well-formed : StaysWellFormed
 stays-well-formed t e o k w =
     either-way t e o (λ z. wellFormed (recordAt (z .table) k) ≡ true) (λ x. w) (λ next signals p m. by next signals p m (eqb k (linkAt e)) refl) where
       by : (next : Link) (signals : List Signal) → first (checks t e (length o)) ≡ passed → Makes t e next signals → (b : Bool) → eqb k (linkAt e) ≡ b →
-          wellFormed (recordAt (putAt t (16 * linkAt e) (octetsOf next)) k) ≡ true
+          wellFormed (recordAt (putAt t (20 * linkAt e) (octetsOf next)) k) ≡ true
       by next signals p m true h =
           let e′ = eqb-true k (linkAt e) h in
-          ap (λ (j : ℕ). wellFormed (recordAt (putAt t (16 * linkAt e) (octetsOf next)) j)) e′
+          ap (λ (j : ℕ). wellFormed (recordAt (putAt t (20 * linkAt e) (octetsOf next)) j)) e′
           ∙ ap wellFormed (this-record t (octetsOf next) (linkAt e) (octets-length next) (placed t e o p))
           ∙ packed-well next (good-next t e m (ap (λ (j : ℕ). wellFormed (recordAt t j)) (sym e′) ∙ w))
       by next signals p m false h =

@@ -1,4 +1,4 @@
--- The step, from table, event and output to answer, table and output, on all octets: the checks in their order, then Table 6.
+-- The step, from table, event and output to answer, table and output, on all octets: the checks in their order, and else Table 6 with 2026-07's rule.
 use Prim.Native.Nat.{ℕ, _+_, _*_, _/_, _%_}
 use mathlib.Core.Bool.{Bool, true, false, not, _&&_, _||_}
 use mathlib.Core.List.{List, [], _∷_, _++_, map}
@@ -22,9 +22,9 @@ use Rattle.step.specs.Checks.{number, place}
 
 -- at most
 abbrev pub tableOctets : ℕ
-tableOctets = 4096
+tableOctets = 5120
 
--- "Table empty, not a multiple of 16, or over 4,096 octets."
+-- "Table empty, not a multiple of 16, or over 4,096 octets": by 2026-07, of 20 and 5,120.
 abbrev pub badTable : List ℕ → Bool
 badTable t = eqb (length t) 0 || not (eqb (length t % recordOctets) 0) || ltb tableOctets (length t)
 
@@ -51,9 +51,9 @@ isIllegal (machine.Legal next signals) = false
 abbrev pub linkFor : List ℕ → List ℕ → Link
 linkFor t e = linkOf (recordAt t (linkAt e))
 
--- the least of an output: eight heads and the longest message
+-- the least of an output: twelve heads and the longest message
 abbrev pub outputOctets : ℕ
-outputOctets = 8 * headOctets + messageOctets
+outputOctets = 12 * headOctets + messageOctets
 
 abbrev pub checks : List ℕ → List ℕ → ℕ → List (Check Refusal)
 checks t e room =

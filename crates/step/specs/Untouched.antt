@@ -21,12 +21,12 @@ RefusalsUntouched = (t e o : List ℕ) → 1 ≤ stepCall t e o .answer .refusal
 abbrev pub OthersUntouched : Type 0
 OthersUntouched = (t e o : List ℕ) (k : ℕ) → (k ≡ linkAt e → ⊥) → recordAt (stepCall t e o .table) k ≡ recordAt t k
 
--- Past the octets that are answered the output is as it was, and these are at most 4,192.
+-- Past the octets that are answered the output is as it was, and these are at most 4,240.
 abbrev pub RestUntouched : Type 0
 RestUntouched = (t e o : List ℕ) → drop (stepCall t e o .answer .octets) (stepCall t e o .output) ≡ drop (stepCall t e o .answer .octets) o
 
-abbrev pub AtMost4192 : Type 0
-AtMost4192 = (t e o : List ℕ) → stepCall t e o .answer .octets ≤ 4192
+abbrev pub AtMost4240 : Type 0
+AtMost4240 = (t e o : List ℕ) → stepCall t e o .answer .octets ≤ 4240
 
 -- Nor do they ever take more than twelve times the event's own octets.
 abbrev pub AtMostTwelvefold : Type 0
@@ -36,12 +36,12 @@ AtMostTwelvefold = (t e o : List ℕ) → stepCall t e o .answer .octets ≤ 12 
 abbrev pub SameLengths : Type 0
 SameLengths = (t e o : List ℕ) → (length (stepCall t e o .table) ≡ length t) × (length (stepCall t e o .output) ≡ length o)
 
--- An output of 4,191 octets is refused. One of 4,192 is as good as any that is taken.
-abbrev pub Refused4191 : Type 0
-Refused4191 = (t e o : List ℕ) → length o ≡ 4191 → 1 ≤ stepCall t e o .answer .refusal
+-- An output of 4,239 octets is refused. One of 4,240 is as good as any that is taken.
+abbrev pub Refused4239 : Type 0
+Refused4239 = (t e o : List ℕ) → length o ≡ 4239 → 1 ≤ stepCall t e o .answer .refusal
 
-abbrev pub Taken4192 : Type 0
-Taken4192 = (t e o p : List ℕ) → stepCall t e o .answer .refusal ≡ 0 → length p ≡ 4192 → stepCall t e p .answer ≡ stepCall t e o .answer
+abbrev pub Taken4240 : Type 0
+Taken4240 = (t e o p : List ℕ) → stepCall t e o .answer .refusal ≡ 0 → length p ≡ 4240 → stepCall t e p .answer ≡ stepCall t e o .answer
 
 -- Acceptance: what Table 6 gives is what was written. As many records as are answered stand in as many octets as are answered, and the named record is the
 -- link's next.

@@ -4,7 +4,6 @@ mod checks;
 
 use checks::Plan;
 use event::Fault;
-use octet::put_at;
 use record::RECORD;
 use signal::put_all;
 ghost use mathlib.Core.Path.{_≡_};
@@ -63,20 +62,19 @@ impl Refusal {
     }
 }
 
-// The octets of the longest table, and the least of an output.
-const TABLE: usize = 4096;
+// The least octets of an output.
+pub const ROOM: usize = 4240;
 
-pub const ROOM: usize = 4192;
+// What check 1 makes of the longest table, 256 records: 20 octets and 4 for each.
+const LONGEST: usize = 6144;
 
-// Check 1. Of the place of the last octet it is asked by one mask and one comparison (D88).
+// Check 1, by one multiplication and two comparisons (D97): of a length of at most 6,144 the low half of the product is 4 for each whole record and more than
+// 2^32 / 20 for each octet left over.
 pub fn bad_table(t: &[u8]) -> bool
     ensures { λ r. ⌜ r ≡ badTable (now (t .entry)) ⌝ }
 {
-    if t.len() == 0 {
-        return true;
-    }
-    let last = t.len() - 1;
-    (last % RECORD != RECORD - 1) | (TABLE <= last)
+    let y = t.len() % 4294967296 * 214748365 % 4294967296 + t.len();
+    (y == 0) | (LONGEST < y)
 }
 
 // What the step answers: 0 or the refusal, the octets written, the signals counted, and the refusal's place.
@@ -104,13 +102,20 @@ pub fn step(table: &mut [u8], event: &[u8], out: &mut [u8]) -> u64
     let e = &event[..];
     match checks::planned(&table[..], e, out.len()) {
         Plan::Refused(r) => r.place() as u64 * PLACE + r.number() as u64,
-        Plan::Go { link, next, words } => {
+        Plan::Go {
+            link,
+            next,
+            words,
+            count,
+            noted,
+            sent,
+        } => {
+            let start = RECORD * link as usize;
+            let end = start + RECORD;
             // The record first: fewer values are held while the signals are written.
-            let packed = record::pack(next);
-            put_at(table, RECORD * link as usize, &packed);
-            let octets = put_all(out, words, next, e) as u64;
-            let signals = link::count(words) as u64;
-            octets * OCTETS + signals * SIGNALS
+            record::rewrite(&mut table[start..end], next, noted, sent, e);
+            let octets = put_all(out, words, count, &table[start..end], e) as u64;
+            octets * OCTETS + count as u64 * SIGNALS
         }
     }
 }

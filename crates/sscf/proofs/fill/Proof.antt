@@ -12,13 +12,13 @@ use Rattle.sscf.proofs.fill.Statement.{statement}
 use Rattle.sscf.proofs.fill.Tie as tie
 
 abbrev Inv-loop : tie.InvT-loop
-Inv-loop table₀ r at₀ table at = (table ≡ filled r table₀ at) × (at % 16 ≡ 0) × (at ≤ length table₀) × (length table ≡ length table₀)
+Inv-loop table₀ r at₀ table at = (table ≡ filled r table₀ at) × (at % 20 ≡ 0) × (at ≤ length table₀) × (length table ≡ length table₀)
 
 abbrev μ-loop : tie.MeasureT-loop
 μ-loop table₀ r at₀ table at = at
 
 -- a record has place before a record's end
-place : (at : ℕ) → at % 16 ≡ 0 → 0 < at → 16 ≤ at
+place : (at : ℕ) → at % 20 ≡ 0 → 0 < at → 20 ≤ at
 place at f h = omega arith
 
 loop-holds : tie.Need-loop-holds Inv-loop μ-loop
@@ -44,7 +44,7 @@ loop-again c =
     let z = place (l .at) (l .inv .1) (omega arith) in
     let p = c .before .before .put-at .ensures in
     let w : length (l .table) ≡ length (a .args .table .now) = l .inv .3 in
-    (p ∙ ap (λ (d : List ℕ). putAt d (l .at - 16) (a .args .r .now)) (l .inv .0) ∙ one-copy-more (a .args .r .now) (a .args .table .now) (l .at) (a .pre .1) (a .pre .0) (l .inv .1) (omega arith) (l .inv .2), omega (arith, l .inv .1), omega (arith, l .inv .2), ap length p ∙ length-put (l .table) (a .args .r .now) (l .at - 16) (omega (arith, a .pre .1, w, l .inv .2)) ∙ w)
+    (p ∙ ap (λ (d : List ℕ). putAt d (l .at - 20) (a .args .r .now)) (l .inv .0) ∙ one-copy-more (a .args .r .now) (a .args .table .now) (l .at) (a .pre .1) (a .pre .0) (l .inv .1) (omega arith) (l .inv .2), omega (arith, l .inv .1), omega (arith, l .inv .2), ap length p ∙ length-put (l .table) (a .args .r .now) (l .at - 20) (omega (arith, a .pre .1, w, l .inv .2)) ∙ w)
 
 same-length : tie.Need-same-length Inv-loop μ-loop
 same-length c = search needs

@@ -25,7 +25,7 @@ refused-11 : (t : List ℕ) (n1 : ℕ) → badTable t ≡ false → eqb n1 0 ≡
 unfolding freshCall
 refused-11 t n1 b z = rw (b, z)
 
-accepted : (t : List ℕ) (n1 : ℕ) → badTable t ≡ false → eqb n1 0 ≡ false → making (freshAnswered 0 0) (copies (length t / 16) (octetsOf (freshLink n1))) ≡ freshCall t n1
+accepted : (t : List ℕ) (n1 : ℕ) → badTable t ≡ false → eqb n1 0 ≡ false → making (freshAnswered 0 0) (copies (length t / 20) (octetsOf (freshLink n1))) ≡ freshCall t n1
 unfolding freshCall
 accepted t n1 b z = rw (b, z)
 
@@ -76,7 +76,7 @@ returns-3 : tie.Need-returns-3
 returns-3 c =
     let a = c .before .before .before .before .before .before .before .before .before .before .before .before .args in
     let p = c .before .before .before .before .before .pack .ensures ∙ ap octetsOf (c .before .before .before .before .before .before .fresh .ensures) in
-    ap (making (freshAnswered 0 0)) (c .before .before .fill .ensures ∙ ap (copies (length (a .table .now) / 16)) p)
+    ap (making (freshAnswered 0 0)) (c .before .before .fill .ensures ∙ ap (copies (length (a .table .now) / 20)) p)
     ∙ accepted (a .table .now) (a .n1) (good (c .before .before .before .before .before .before .before .before)) (ne-eqb _ _ (c .before .before .before .before .before .before .before .if2 .left))
 
 pub sscf-fresh-spec : {M : Type 1} → statement M

@@ -1,27 +1,31 @@
 -- `step::step` meets its contract. Assumes nothing.
-use mathlib.Core.Path.{_≡_, sym, ap, _∙_}
+use mathlib.Core.Path.{_≡_, sym, ap, subst, _∙_}
 use mathlib.Core.Bool.{false}
-use mathlib.Core.List.{List}
-use Prim.Native.Nat.{ℕ, _+_, _*_, _≤_}
+use mathlib.Core.List.{List, _++_}
+use Prim.Native.Nat.{ℕ, _+_, _-_, _*_, _≤_}
 use native.Mathlib.Omega.{arith}
-use lib.ListN.{length, drop}
+use lib.ListN.{length, take, drop}
 use borrow.Author.Needs.{needs}
 use Rattle.link.specs.declared.Link.{Link}
 use Rattle.link.specs.declared.Signal.{Signal}
-use Rattle.link.specs.Stored.{signalsOf}
+use Rattle.link.specs.Kept.{brought}
+use Rattle.link.specs.Stored.{Noted, signalsOf}
 use Rattle.link.proofs.Spoken.{as-many}
 use Rattle.unit.specs.Checks.{refused, first}
 use Rattle.octet.specs.Octets.{putAt}
-use Rattle.record.specs.LinkRecord.{recordOctets, octetsOf}
-use Rattle.event.specs.Frame.{EV, linkAt, messageOf}
-use Rattle.signal.specs.SignalRecord.{joined}
+use Rattle.octet.proofs.Over.{length-put}
+use Rattle.record.specs.LinkRecord.{octetsOf, linkOf, wellFormed}
+use Rattle.record.proofs.LinkRecord.{octets-length, unpacked}
+use Rattle.event.specs.Frame.{EV, linkAt, numberAt, messageOf}
+use Rattle.signal.specs.SignalRecord.{joined, Put}
 use Rattle.signal.specs.Writing.{given}
 use Rattle.event.proofs.Frame.{sound, message-length}
 use Rattle.step.specs.declared.checks.Plan.{Plan}
 use Rattle.step.specs.Checks.{number, place}
-use Rattle.step.specs.Step.{badTable, checks, answered, answering}
+use Rattle.step.specs.Step.{badTable, recordAt, checks, answered, answering}
 use Rattle.step.specs.Plan.{Planned, toldBy}
-use Rattle.step.proofs.Places.{inside}
+use Rattle.step.proofs.Places.{inside, record-length, slice, put-back}
+use Rattle.step.proofs.Untouched.{this-record}
 use Rattle.step.proofs.Told.{number-below, place-given, refusal-back, acceptance-back}
 use Rattle.step.proofs.Taken.{Taken, taken, message-small, made-after, room-for, step-refused, step-accepted}
 use Rattle.step.proofs.step.Statement.{statement}
@@ -47,20 +51,49 @@ K c = c .link .given .0 .0
 abbrev N : tie.After-link → Link
 N c = c .link .given .0 .1 .0
 
-abbrev S : tie.After-link → List Signal
-S c = signalsOf (c .link .given .0 .1 .1 .0) (given (N c) (E c))
+abbrev W : tie.After-link → ℕ
+W c = c .link .given .0 .1 .1 .0
 
-go : (c : tie.After-link) → Planned (checks (T c) (E c) (length (O c))) (T c) (E c) (Plan.Go (K c) (N c) (c .link .given .0 .1 .1 .0))
+abbrev C : tie.After-link → ℕ
+C c = c .link .given .0 .1 .1 .1 .0
+
+abbrev Z₁ : tie.After-link → ℕ
+Z₁ c = c .link .given .0 .1 .1 .1 .1 .0
+
+abbrev Z₂ : tie.After-link → ℕ
+Z₂ c = c .link .given .0 .1 .1 .1 .1 .1 .0
+
+abbrev S : tie.After-link → List Signal
+S c = signalsOf (C c) (W c) (given (N c) (E c))
+
+go : (c : tie.After-link) → Planned (checks (T c) (E c) (length (O c))) (T c) (E c) (Plan.Go (K c) (N c) (W c) (C c) (Z₁ c) (Z₂ c))
 go c =
-    let p : Planned (drop 1 (checks (T c) (E c) (length (O c)))) (T c) (E c) (Plan.Go (K c) (N c) (c .link .given .0 .1 .1 .0)) = rw (c .link .given .1) at (c .before .before .planned .ensures) in
-    (past-first (T c) (E c) (length (O c)) (c .before .before .before .before .before .before .before .pre) ∙ p .0, p .1, p .2)
+    let p : Planned (drop 1 (checks (T c) (E c) (length (O c)))) (T c) (E c) (Plan.Go (K c) (N c) (W c) (C c) (Z₁ c) (Z₂ c)) = rw (c .link .given .1) at (c .before .before .planned .ensures) in
+    (past-first (T c) (E c) (length (O c)) (c .before .before .before .before .before .before .before .pre) ∙ p .0, p .1, p .2, p .3)
 
 tk : (c : tie.After-link) → Taken (T c) (E c) (length (O c))
 tk c = taken (T c) (E c) (length (O c)) (go c .0)
 
 -- the signals have room
-fits : (c : tie.After-link) → length (joined (linkAt (E c)) (messageOf (E c)) (S c)) ≤ 4192
+fits : (c : tie.After-link) → length (joined (linkAt (E c)) (messageOf (E c)) (S c)) ≤ 4240
 fits c = room-for (T c) (E c) (tk c .sound) (go c .2)
+
+-- THE RECORD, found and left
+module _ (c : tie.After-link) where
+  found : take (20 * K c + 20 - 20 * K c) (drop (20 * K c) (T c)) ≡ recordAt (T c) (linkAt (E c))
+  found = slice (T c) (K c) ∙ ap (recordAt (T c)) (go c .1)
+
+  module _ (y : List ℕ) (e : y ≡ octetsOf (N c)) where
+    table-left : take (20 * K c) (T c) ++ (y ++ drop (20 * K c + 20 - 20 * K c) (drop (20 * K c) (T c))) ≡ putAt (T c) (20 * linkAt (E c)) (octetsOf (N c))
+    table-left = put-back (T c) y (K c) (ap length e ∙ octets-length (N c)) ∙ (λ i. putAt (T c) (20 * go c .1 i) (e i))
+
+    left-there : take (20 * K c + 20 - 20 * K c) (drop (20 * K c) (take (20 * K c) (T c) ++ (y ++ drop (20 * K c + 20 - 20 * K c) (drop (20 * K c) (T c))))) ≡ octetsOf (N c)
+    left-there =
+        slice _ (K c) ∙ (λ i. recordAt (table-left i) (go c .1 i))
+        ∙ this-record (T c) (octetsOf (N c)) (linkAt (E c)) (octets-length (N c)) (omega (arith, inside (T c) (linkAt (E c)) (tk c .inside)))
+
+    link-left : linkOf (take (20 * K c + 20 - 20 * K c) (drop (20 * K c) (take (20 * K c) (T c) ++ (y ++ drop (20 * K c + 20 - 20 * K c) (drop (20 * K c) (T c)))))) ≡ N c
+    link-left = ap linkOf left-there ∙ unpacked (N c)
 
 -- a refusal: what refuses, and that its place is small
 abbrev Z : tie.After-known-told → List ℕ × List ℕ × List ℕ
@@ -101,47 +134,91 @@ add-result c = omega (arith, c .before .place .ensures, near (c .before .before)
 enum-known-link : tie.Need-enum-known-link
 enum-known-link c = search needs
 
-pack-requires : tie.Need-pack-requires
-pack-requires c κs = search needs
+cast-start : tie.Need-cast-start
+cast-start c = search needs
 
-cast-put-at : tie.Need-cast-put-at
-cast-put-at c = search needs
+mul-start : tie.Need-mul-start
+mul-start c = search needs
 
-mul-put-at : tie.Need-mul-put-at
-mul-put-at c = search needs
+add-end : tie.Need-add-end
+add-end c = search needs
 
-slice-aggregate-put-at : tie.Need-slice-aggregate-put-at
-slice-aggregate-put-at c = search needs
+sub-rewrite : tie.Need-sub-rewrite
+sub-rewrite c = search needs
 
-put-at-requires : tie.Need-put-at-requires
-put-at-requires c κs =
-    let l = c .before .before .before .before in
-    omega (arith, go l .1, inside (T l) (linkAt (E l)) (tk l .inside), ap length (c .before .before .pack .ensures))
+part-rewrite-start : tie.Need-part-rewrite-start
+part-rewrite-start c = search needs
+
+-- a record ends inside the table
+ends : (l : tie.After-link) → 20 * K l + 20 ≤ length (T l)
+ends l = omega (arith, go l .1, inside (T l) (linkAt (E l)) (tk l .inside))
+
+part-rewrite-end : tie.Need-part-rewrite-end
+part-rewrite-end c = ends (c .before)
+
+rewrite-requires : tie.Need-rewrite-requires
+rewrite-requires c κs =
+    let l = c .before .before in (
+      ap length (found l) ∙ record-length (T l) (linkAt (E l)) (tk l .inside),
+      omega (arith, sound EV _ (tk l .sound) .twelve),
+      ap wellFormed (found l) ∙ tk l .formed,
+      subst (λ (k : Link). Noted k (numberAt (E l)) (N l) (Z₁ l) (Z₂ l)) (ap linkOf (sym (found l))) (go l .3),
+    )
+
+sub-put-all : tie.Need-sub-put-all
+sub-put-all c = search needs
+
+part-put-all-start : tie.Need-part-put-all-start
+part-put-all-start c = search needs
+
+part-put-all-end : tie.Need-part-put-all-end
+part-put-all-end c =
+    let l = c .before .before .before .before .before .before .before in
+    let w = c .before .before .before .before .rewrite in
+    subst (λ (x : List ℕ). 20 * K l + 20 ≤ length x) (sym (table-left l (w .last .0) (w .ensures)))
+    (omega (arith, ends l, length-put (T l) (octetsOf (N l)) (20 * linkAt (E l)) (omega (arith, octets-length (N l), go l .1, ends l))))
 
 put-all-requires : tie.Need-put-all-requires
 put-all-requires c κs =
     let l = c .before .before .before .before .before .before .before .before in
+    let w = c .before .before .before .before .before .rewrite in
     let f = tk l .sound in
-    (sound EV _ f .twelve, sym (message-length EV (E l) f), message-small (E l) f, made-after (T l) (E l) (go l .2) .one-brought, omega (arith, fits l, tk l .wide))
+    let k = sym (link-left l (w .last .0) (w .ensures)) in (
+      ap length (left-there l (w .last .0) (w .ensures)) ∙ octets-length (N l),
+      sound EV _ f .twelve,
+      sym (message-length EV (E l) f),
+      message-small (E l) f,
+      subst (λ (x : Link). brought (signalsOf (C l) (W l) (given x (E l))) ≤ 1) k (made-after (T l) (E l) (go l .2) .one-brought),
+      subst (λ (x : Link). length (joined (linkAt (E l)) (messageOf (E l)) (signalsOf (C l) (W l) (given x (E l)))) ≤ length (O l)) k (omega (arith, fits l, tk l .wide)),
+    )
 
-count-requires : tie.Need-count-requires
-count-requires c κs = search needs
-
-cast-signals : tie.Need-cast-signals
-cast-signals c = search needs
+-- the signals were those of the link that is left
+put : (c : tie.After-put-all) → let l = c .before .before .before .before .before .before .before .before .before in
+    Put (joined (linkAt (E l)) (messageOf (E l)) (S l)) (O l) (c .put-all .result) (c .put-all .last .0)
+put c =
+    let l = c .before .before .before .before .before .before .before .before .before in
+    let w = c .before .before .before .before .before .before .rewrite in
+    subst (λ (x : Link). Put (joined (linkAt (E l)) (messageOf (E l)) (signalsOf (C l) (W l) (given x (E l)))) (O l) (c .put-all .result) (c .put-all .last .0))
+    (link-left l (w .last .0) (w .ensures)) (c .put-all .ensures)
 
 -- both numbers are small
-few : (c : tie.After-count) → c .before .before .before .put-all .result ≤ 4192
-few c = omega (arith, c .before .before .before .put-all .ensures .answer, fits (c .before .before .before .before .before .before .before .before .before .before .before .before))
+few : (c : tie.After-put-all) → c .put-all .result ≤ 4240
+few c = omega (arith, put c .answer, fits (c .before .before .before .before .before .before .before .before .before))
+
+many : (l : tie.After-link) → C l ≤ 8
+many l = omega (arith, as-many (C l) (W l) (given (N l) (E l)), made-after (T l) (E l) (go l .2) .eight)
 
 mul-result-2 : tie.Need-mul-result-2
-mul-result-2 c = omega (arith, few c)
+mul-result-2 c = omega (arith, few (c .before .before))
+
+cast-result-3 : tie.Need-cast-result-3
+cast-result-3 c = search needs
 
 mul-result-3 : tie.Need-mul-result-3
 mul-result-3 c = search needs
 
 add-result-2 : tie.Need-add-result-2
-add-result-2 c = omega (arith, few c, c .count .ok)
+add-result-2 c = omega (arith, few (c .before .before), many (c .before .before .before .before .before .before .before .before .before .before .before))
 
 same-length : tie.Need-same-length
 same-length c = search needs
@@ -162,13 +239,12 @@ same-length-3 c = search needs
 
 returns-2 : tie.Need-returns-2
 returns-2 c =
-    let l = c .before .before .before .before .before .before .before .before .before .before .before .before in
-    let p = c .before .before .before .put-all .ensures in
-    let et : c .before .before .before .before .before .before .before .put-at .last .0 ≡ putAt (T l) (recordOctets * linkAt (E l)) (octetsOf (N l)) =
-    c .before .before .before .before .before .before .before .put-at .ensures ∙ (λ i. putAt (T l) (recordOctets * go l .1 i) (c .before .before .before .before .before .before .before .before .before .before .pack .ensures i)) in
-    let n : c .count .result ≡ length (S l) = c .count .ensures ∙ sym (as-many (l .link .given .0 .1 .1 .0) (given (N l) (E l))) in
-    let a = acceptance-back (c .before .before .before .put-all .result) (c .count .result) (few c) (c .count .ok) ∙ (λ i. answered 0 (p .answer i) (n i) 0) in
-    (λ i. answering (a i) (et i) (p .written i))
+    let l = c .before .before .before .before .before .before .before .before .before .before .before in
+    let w = c .before .before .before .before .before .before .before .before .rewrite in
+    let p = put (c .before .before) in
+    let n = sym (as-many (C l) (W l) (given (N l) (E l))) in
+    let a = acceptance-back (c .before .before .put-all .result) (C l) (few (c .before .before)) (omega (arith, many l)) ∙ (λ i. answered 0 (p .answer i) (n i) 0) in
+    (λ i. answering (a i) (table-left l (w .last .0) (w .ensures) i) (p .written i))
     ∙ sym (step-accepted (T l) (E l) (O l) (go l .0) (go l .2))
 
 pub step-spec : {M : Type 1} → statement M
@@ -184,15 +260,19 @@ step-spec =
     cast-result-2
     add-result
     enum-known-link
-    pack-requires
-    cast-put-at
-    mul-put-at
-    slice-aggregate-put-at
-    put-at-requires
+    cast-start
+    mul-start
+    add-end
+    sub-rewrite
+    part-rewrite-start
+    part-rewrite-end
+    rewrite-requires
+    sub-put-all
+    part-put-all-start
+    part-put-all-end
     put-all-requires
-    count-requires
-    cast-signals
     mul-result-2
+    cast-result-3
     mul-result-3
     add-result-2
     same-length

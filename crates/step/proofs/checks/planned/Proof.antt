@@ -28,7 +28,7 @@ decided t e room h = field-checks t e room ∙ ap (λ (w : Verdict Fault). onwar
 -- past some checks those that are left decide
 left : (cs ds : List (Check Refusal)) (t e : List ℕ) (r : Plan) → first cs ≡ first ds → Planned ds t e r → Planned cs t e r
 left cs ds t e (Plan.Refused x) h p = h ∙ p
-left cs ds t e (Plan.Go l next words) h p = (h ∙ p .0, p .1, p .2)
+left cs ds t e (Plan.Go l next words count noted sent) h p = (h ∙ p .0, p .1, p .2, p .3)
 
 -- what the reading of the event told
 told : (c : tie.After-read-event) (r : Reading) → c .read-event .result ≡ r → ToldOf (c .before .before .before .args .e .now) r
@@ -52,7 +52,7 @@ enum-known-fault c = search needs
 link-plan-requires : tie.Need-link-plan-requires
 link-plan-requires c κs =
     let r = c .before .before in
-    (sound EV _ (told r Reading.Fits (c .enum-told3 .given .1) .0) .twelve, sym (r .read-event .ensures) ∙ ap reading (c .enum-told3 .given .1))
+    (sound EV _ (told r Reading.Fits (c .enum-told3 .given .1) .0) .twelve, sym (r .read-event .ensures) ∙ ap reading (c .enum-told3 .given .1), r .before .before .before .pre)
 
 returns : tie.Need-returns
 returns c = rw (told (c .before .before) Reading.BadFrame (c .enum-told .given .1))

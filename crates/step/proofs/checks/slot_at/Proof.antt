@@ -27,7 +27,7 @@ read-link-requires c κs = search needs
 returns : tie.Need-returns
 returns c =
     let a = c .before .before .before .args in
-    let q : 16 * a .k + 16 - 16 * a .k ≡ 16 = omega arith in
+    let q : 20 * a .k + 20 - 20 * a .k ≡ 20 = omega arith in
     c .read-link .ensures ∙ rw q
 
 pub slot-at-spec : {M : Type 1} → statement M
