@@ -14,15 +14,15 @@ const OUT: i32 = 1;
 
 // Reads the count of links and their records. Answers the octets of the table, 0 for a bad count or a short table.
 fn read_table(table: &mut [u8]) -> usize
-    requires { ⌜ length (now table) ≡ 4096 ⌝ }
-    ensures { λ r. ⌜ r ≤ 4096 ⌝ }
+    requires { ⌜ length (now table) ≡ 5120 ⌝ }
+    ensures { λ r. ⌜ r ≤ 5120 ⌝ }
 {
     let mut count = [0u8; 2];
     if io::read_full(IN, &mut count) < 2 {
         return 0;
     }
     let octets = octet::wide(count[0], count[1]) as usize * RECORD;
-    if 4096 < octets {
+    if 5120 < octets {
         return 0;
     }
     if io::read_full(IN, &mut table[..octets]) < octets {
@@ -57,7 +57,7 @@ fn print(text: &[u8], n: usize)
 
 // Prints the signals that stand one behind the other in out.
 fn print_signals(text: &mut [u8], out: &[u8], signals: u32)
-    requires { ⌜ (length (now text) ≡ 8512) × (length (now out) ≡ 4192) ⌝ }
+    requires { ⌜ (length (now text) ≡ 8608) × (length (now out) ≡ 4240) ⌝ }
 {
     let mut rest = out;
     let mut i = 0;
@@ -81,7 +81,7 @@ fn one_event(
     out: &mut [u8],
     text: &mut [u8],
 ) -> bool
-    requires { ⌜ (length (now event) ≡ 4108) × (length (now out) ≡ 4192) × (length (now text) ≡ 8512) ⌝ }
+    requires { ⌜ (length (now event) ≡ 4108) × (length (now out) ≡ 4240) × (length (now text) ≡ 8608) ⌝ }
 {
     let n = read_event(event);
     if n == 0 {
@@ -96,10 +96,10 @@ fn one_event(
 
 // Nothing says that the events end, and a proved loop must: it counts up to a number that no run reaches.
 fn all_events(table: &mut [u8], text: &mut [u8])
-    requires { ⌜ length (now text) ≡ 8512 ⌝ }
+    requires { ⌜ length (now text) ≡ 8608 ⌝ }
 {
     let mut event = [0u8; 4108];
-    let mut out = [0u8; 4192];
+    let mut out = [0u8; 4240];
     let mut ordinal: u64 = 1;
     while ordinal < u64::MAX && one_event(ordinal, table, &mut event, &mut out, text) {
         ordinal += 1;
@@ -107,7 +107,7 @@ fn all_events(table: &mut [u8], text: &mut [u8])
 }
 
 fn print_links(table: &[u8], text: &mut [u8])
-    requires { ⌜ (length (now text) ≡ 8512) × (length (now table) ≤ 4096) ⌝ }
+    requires { ⌜ (length (now text) ≡ 8608) × (length (now table) ≤ 5120) ⌝ }
 {
     let mut k = 0;
     while k < table.len() / RECORD {
@@ -121,15 +121,15 @@ fn print_links(table: &[u8], text: &mut [u8])
 
 // The events, then the links.
 fn traced(table: &mut [u8])
-    requires { ⌜ length (now table) ≤ 4096 ⌝ }
+    requires { ⌜ length (now table) ≤ 5120 ⌝ }
 {
-    let mut text = [0u8; 8512];
+    let mut text = [0u8; 8608];
     all_events(table, &mut text);
     print_links(table, &mut text);
 }
 
 fn main() {
-    let mut table = [0u8; 4096];
+    let mut table = [0u8; 5120];
     let octets = read_table(&mut table);
     if octets == 0 {
         io::write_all(OUT, b"T 1\n");

@@ -8,7 +8,7 @@ use Rattle.trace.proofs.all_events.Statement.{statement}
 use Rattle.trace.proofs.all_events.Tie as tie
 
 abbrev Inv-loop : tie.InvT-loop
-Inv-loop table₀ text₀ event₀ out₀ ordinal₀ table text event out ordinal = (length text ≡ 8512) × (length table ≡ length table₀) × (length event ≡ 4108) × (length out ≡ 4192)
+Inv-loop table₀ text₀ event₀ out₀ ordinal₀ table text event out ordinal = (length text ≡ 8608) × (length table ≡ length table₀) × (length event ≡ 4108) × (length out ≡ 4240)
 
 abbrev μ-loop : tie.MeasureT-loop
 μ-loop table₀ text₀ event₀ out₀ ordinal₀ table text event out ordinal = 18446744073709551615 - ordinal

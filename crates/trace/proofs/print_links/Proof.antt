@@ -8,10 +8,10 @@ use Rattle.trace.proofs.print_links.Statement.{statement}
 use Rattle.trace.proofs.print_links.Tie as tie
 
 abbrev Inv-loop : tie.InvT-loop
-Inv-loop table text₀ k₀ text k = (length text ≡ 8512) × (k ≤ length table / 16)
+Inv-loop table text₀ k₀ text k = (length text ≡ 8608) × (k ≤ length table / 20)
 
 abbrev μ-loop : tie.MeasureT-loop
-μ-loop table text₀ k₀ text k = length table / 16 - k
+μ-loop table text₀ k₀ text k = length table / 20 - k
 
 loop-holds : tie.Need-loop-holds Inv-loop μ-loop
 loop-holds c = search needs

@@ -10,7 +10,7 @@ use Rattle.trace.proofs.print_signals.Statement.{statement}
 use Rattle.trace.proofs.print_signals.Tie as tie
 
 abbrev Inv-loop : tie.InvT-loop
-Inv-loop text₀ out signals rest₀ i₀ text rest i = (length text ≡ 8512) × (length rest ≤ 4192) × (i ≤ signals)
+Inv-loop text₀ out signals rest₀ i₀ text rest i = (length text ≡ 8608) × (length rest ≤ 4240) × (i ≤ signals)
 
 abbrev μ-loop : tie.MeasureT-loop
 μ-loop text₀ out signals rest₀ i₀ text rest i = signals - i
