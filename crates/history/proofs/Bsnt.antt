@@ -2,7 +2,7 @@
 use mathlib.Core.Path.{_≡_, refl, sym, ap, _∙_}
 use mathlib.Core.Logic.{_↔_}
 use mathlib.Core.Bool.{Bool, true, false, cond, not, _&&_, _||_, false≢true}
-use mathlib.Core.List.{List, [], _∷_, _++_, map}
+use mathlib.Core.List.{List, [], _∷_, map}
 use Prim.Native.Nat.{ℕ}
 use native.Mathlib.Omega.{arith}
 use lib.Dec.{eqb}
@@ -15,13 +15,10 @@ use Rattle.table6.specs.declared.State.{State}
 use Rattle.table6.specs.EventCodes.{RETRIEVE-BSNT, DATA-indication}
 use Rattle.table6.specs.SignalCodes.{code, ESTABLISH-response}
 use Rattle.table6.specs.Cell as table6
-use Rattle.table6.specs.Cell.{Choice, illegal, does}
-use Rattle.table6.specs.Order.{signals}
-use Rattle.table6.specs.Rows.{heading}
-use Rattle.table6.specs.Summary.{Op, keep, put, still, summary, sum}
+use Rattle.table6.specs.Summary.{Op, keep, put, Summary, summed}
 use Rattle.table6.specs.Table6.{AAL-RETRIEVE-BSNT-request}
 use Rattle.table6.specs.Words.{1/1/1, 1/4/1}
-use Rattle.table6.proofs.Every.{left, right, Holds}
+use Rattle.table6.proofs.Every.{left, right}
 use Rattle.table6.proofs.Unfolded.{every-row}
 use Rattle.link.specs.declared.Num.{Num}
 use Rattle.link.specs.declared.Bsnt.{Bsnt}
@@ -33,8 +30,8 @@ use Rattle.link.specs.Effect.{with-state, with-bsnt, taken, not-retrievable}
 use Rattle.link.specs.Signal as link
 use Rattle.link.specs.Signal.{signalOf}
 use Rattle.link.specs.Step.{Outcome, Illegal, Legal, stepOf}
-use Rattle.link.specs.Stored.{viewOf, meetingOf, factsOf, held}
-use Rattle.link.proofs.Performed.{outcomeOf, choiceOf, by-choice}
+use Rattle.link.specs.Stored.{viewOf, meetingOf, held}
+use Rattle.link.proofs.Performed.{outcomeOf}
 use Rattle.octet.specs.Octets.{at}
 use Rattle.record.specs.LinkRecord.{linkOf, octetsOf}
 use Rattle.record.proofs.LinkRecord.{unpacked}
@@ -53,7 +50,7 @@ use Rattle.history.proofs.Tested.{connection, not-none}
 use Rattle.history.proofs.Latest.{shows-number, shows-none}
 use Rattle.history.proofs.Lawful.{implied}
 use Rattle.history.proofs.Walk.{Kind, quiet, stops, confirms, releases, hears, receives, wishes, forces, Of, counting, each}
-use Rattle.history.proofs.Table.{Now, down, on, now, sortAt, sameOp, Test, Passes, choice-ok}
+use Rattle.history.proofs.Table.{Now, down, on, now, sortAt, sameOp, Asks, onward, Passes, by-test}
 use Rattle.history.proofs.Calls.{emitted-ones, Keeps, Invariant, Kept, after-each-call}
 use Rattle.history.proofs.Events.{Told, sorted}
 use Rattle.history.proofs.Step.{NowIs, Inv, keeps-inv, same-op, twice}
@@ -88,11 +85,10 @@ bit b = cond b 1 0
 abbrev tells : Kind → List table6.Told → Op Bool
 tells k told = cond (responds told) (put false) (brought k)
 
-abbrev remembers : Test
-remembers s st flag arrives acts next =
-    (not (takes (brought (s .mark))) || connected (now st flag)) && sameOp bit (tells (s .mark) (signals acts)) (summary (arrives ++ acts) still .bsnt)
+abbrev remembers : Asks
+remembers s st flag r says next = (not (takes (brought (s .mark))) || connected (now st flag)) && sameOp bit (tells (s .mark) says) (r .bsnt)
 
-table-remembers : Passes remembers
+table-remembers : Passes (onward remembers)
 unfolding every-row
 table-remembers = refl
 
@@ -172,13 +168,10 @@ module _ (n1 : ℕ) (l : Link) (h : List Mark) (v : Inv n1 l h) (is : bsnt h ≡
   abbrev kind : Kind
   kind = sortAt (seen .0) .mark
 
-  chosen-ok : (y : Choice) → Holds (remembers (sortAt (seen .0)) (l .state) (l .ins) (heading (seen .0) .arrives)) [] y →
-      Keeps BsntIs n1 h e (outcomeOf l (meetingOf seen) (sum (heading (seen .0) .arrives) y))
-  chosen-ok illegal i = tt
-  chosen-ok (does acts next) i =
-      let told = signals acts in
+  remembered-so : (r : Summary) (told : List table6.Told) (next : State) → remembers (sortAt (seen .0)) (l .state) (l .ins) r told next ≡ true →
+      Keeps BsntIs n1 h e (outcomeOf l (meetingOf seen) (summed r told next))
+  remembered-so r told next i =
       let o = brought kind in
-      let r = summary (heading (seen .0) .arrives ++ acts) still in
       let there = now (l .state) (l .ins) in
       let on-one = not (takes o) || connected there in
       let so = sameOp bit (tells kind told) (r .bsnt) in
@@ -210,10 +203,8 @@ remembered =
     record {
       begins = λ n1. record { inv = keeps-inv .begins n1; bsnt-is = at-first };
       goes-on = λ n1 l h v e p.
-          let x = viewOf (eventOf e) (l .c1) in
           together n1 h e (stepOf l (eventOf e)) (keeps-inv .goes-on n1 l h (v .inv) e p)
-          (by-choice (Keeps BsntIs n1 h e) l (eventOf e)
-          (chosen-ok n1 l h (v .inv) (v .bsnt-is) e (sorted e p (l .c1)) (choiceOf l x) (choice-ok remembers (l .state) (factsOf l x) table-remembers (x .0))));
+          (by-test remembers table-remembers (Keeps BsntIs n1 h e) l (eventOf e) tt (remembered-so n1 l h (v .inv) (v .bsnt-is) e (sorted e p (l .c1))));
     }
 
 -- THE RECORD

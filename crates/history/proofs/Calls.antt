@@ -93,16 +93,16 @@ module _ (I : ℕ → Link → List Mark → Type 0) where
   abbrev Good : World → Type 0
   Good w = (k : ℕ) → k < records (w .table) → Kept (w .n1) (recordAt (w .table) k) (history w k)
 
-pub made-length : (buffer : List ℕ) (n1 : ℕ) → freshCall buffer n1 .answer .refusal ≡ 0 → length (freshCall buffer n1 .table) ≡ 16 * records buffer
+pub made-length : (buffer : List ℕ) (n1 : ℕ) → freshCall buffer n1 .answer .refusal ≡ 0 → length (freshCall buffer n1 .table) ≡ 20 * records buffer
 unfolding freshCall
 made-length buffer n1 = by (first (freshChecks buffer n1)) where
-  by : (v : Verdict Refusal) → maker.made v buffer n1 .answer .refusal ≡ 0 → length (maker.made v buffer n1 .table) ≡ 16 * records buffer
+  by : (v : Verdict Refusal) → maker.made v buffer n1 .answer .refusal ≡ 0 → length (maker.made v buffer n1 .table) ≡ 20 * records buffer
   by (refused x) h = absurd (omega (arith, number-above x))
   by passed h = length-copies (records buffer) (octetsOf (freshLink n1)) (octets-length (freshLink n1))
 
 module _ (I : ℕ → Link → List Mark → Type 0) (v : Invariant I) (w : World) (g : Good I w) (e o : List ℕ) where
   same-records : records (stepCall (w .table) e o .table) ≡ records (w .table)
-  same-records = ap (λ (n : ℕ). n / 16) (same-lengths (w .table) e o .0)
+  same-records = ap (λ (n : ℕ). n / 20) (same-lengths (w .table) e o .0)
 
   no-check : stepCall (w .table) e o .answer .refusal ≡ 0 → first (checks (w .table) e (length o)) ≡ passed
   no-check =

@@ -13,3 +13,6 @@ pub mod Pics
 pub mod Latest
 pub mod Bsnt
 pub mod Bursts
+pub mod Flagged
+pub mod Congestion
+pub mod CongestionWitness

@@ -15,10 +15,10 @@ use Rattle.unit.specs.declared.Ups.{Ups}
 use Rattle.unit.specs.Unit.{unitOf, kind, arrived, decoded}
 use Rattle.unit.specs.Proving.{asked, table7}
 use Rattle.table6.specs.declared.State.{State}
-use Rattle.table6.specs.Cell.{Timer, T1, T2, T3, Told, cell, Choice, illegal, does, chosen}
-use Rattle.table6.specs.Rows.{printed}
-use Rattle.table6.specs.Order.{signals}
-use Rattle.table6.specs.Words.{–, OOS, LR, SR, ALN, PDUT}
+use Rattle.table6.specs.Cell.{Timer, T1, T2, T3, Told}
+use Rattle.table6.specs.Summary.{Summed, refused, summed}
+use Rattle.table6.specs.Stored.{met, goesOn}
+use Rattle.table6.specs.Words.{–, OOS, ANS, LR, SR, ALN, PDUT, field}
 use Rattle.table6.specs.Words.{1/1/1, 1/4/1, 2/1/2, 2/2/2, 2/4/2, 2/10/3, 2/10/4, 3/10/5}
 use Rattle.table6.specs.EventCodes.{MESSAGE-FOR-TRANSMISSION, STOP, START, ESTABLISH-indication, ESTABLISH-confirm, RELEASE-indication, RELEASE-confirm, DATA-indication}
 use Rattle.table6.specs.EventCodes.{T1-expired, T2-expired, T3-expired}
@@ -32,10 +32,12 @@ use Rattle.link.specs.declared.Link.{Link}
 use Rattle.link.specs.declared.Event.{Event}
 use Rattle.link.specs.declared.Event.the-variants as event
 use Rattle.link.specs.declared.Signal.{Signal}
-use Rattle.link.specs.Effect.{with-state, with-ins, with-lpo, with-ups, with-c1, with-bsnt, with-timer, taken, not-retrievable}
+use Rattle.link.specs.Effect.{with-state, with-ins, with-lpo, with-ups, with-c1, with-bsnt, with-timer, with-congested, with-last, taken, not-retrievable}
 use Rattle.link.specs.Signal.{none, num, signal, bare, signalOf}
-use Rattle.link.specs.Step.{Meeting, meeting, facts, Outcome, Illegal, Legal, outcome, stepOf}
+use Rattle.link.specs.Step.{Meeting, Outcome, Illegal, Legal, stepOf}
+use Rattle.link.specs.Stored.{viewOf, meetingOf, factsOf}
 use Rattle.link.specs.Twelve.{unit, report}
+use Rattle.link.proofs.Performed.{outcomeOf, as-met}
 use Rattle.record.specs.LinkRecord.{wellFormed, linkOf}
 use Rattle.record.proofs.LinkRecord.{unpacked}
 use Rattle.event.specs.Frame.{EV, written, linkAt, codeAt, messageOf}
@@ -57,7 +59,7 @@ use Rattle.step.proofs.Untouched.{number-above, refusals-untouched, same-length
 use Rattle.sscf.proofs.AllFresh.{fresh-well-formed}
 use Rattle.history.specs.Calls.{Call, fresh, step, burst, signalsIn, World, made, stepped, next, run, AfterEachCall}
 use Rattle.history.specs.Pics.{Turn, _⇒_, Happens, linkIn, Leads, plain, asking, from-peer, coded, Source, sourced, released, message, arriving, report-uu, reported}
-use Rattle.history.specs.Pics.{request, response, units, readies, completes, joins, notes, later, sooner, Brings, Serves, starts, answers, confirms, fails, SNPC1, SNPC2}
+use Rattle.history.specs.Pics.{request, response, units, readies, completes, joins, notes, later, sooner, Brings, BringsFree, Serves, starts, answers, confirms, fails, SNPC1, SNPC2}
 use Rattle.history.specs.Pics.{SNPC3, SNPC4, SNPC5, stops, SNPC6, toUser, toSSCOP, toManagement, toTimers, oneOf, every, SNPC6-1, SNPC7, SNPC8}
 use Rattle.history.specs.Pics.{T1-runs, T2-runs, retries, SNSP1, gives-up, expires, SNSP2}
 use Rattle.history.specs.History.{Mark, history}
@@ -86,7 +88,7 @@ pub record Hands (e : List ℕ) (k c : ℕ) (x : Event) : Type 0 where
   event : eventOf e ≡ x
 
 module _ (w : World) (k c : ℕ) (l : Link) (e : List ℕ) (x : Event) (a : At w (linkAt e) l) (f : Hands e k c x) (r : idle l c ≡ false) (after : Link)
-    (said : List Signal) (s : stepOf l x ≡ Legal after said) (o : List ℕ) (wide : 4192 ≤ length o) where
+    (said : List Signal) (s : stepOf l x ≡ Legal after said) (o : List ℕ) (wide : 4240 ≤ length o) where
   makes : Makes (w .table) e after said
   makes = rw (a .holds, f .event) s
 
@@ -94,7 +96,7 @@ module _ (w : World) (k c : ℕ) (l : Link) (e : List ℕ) (x : Event) (a : At w
   passes =
       let g = verdict.clear (fieldChecks (codeAt e) (fieldsIn e)) (f .passed .fits) in
       verdict.none (call.checks (w .table) e (length o))
-      (a .good, (ap not (f .passed .sound), (f .passed .known, (g .0, (g .1 .0, (g .1 .1 .0, (g .1 .1 .1 .0, (g .1 .1 .1 .1 .0, (g .1 .1 .1 .1 .1 .0, (lt-leb (records (w .table)) (linkAt e) (a .inside), (ap not (a .formed), (rw (a .holds, f .code) r, (ap isIllegal makes, (le-ltb (length o) 4192 wide, tt))))))))))))))
+      (a .good, (ap not (f .passed .sound), (f .passed .known, (g .0, (g .1 .0, (g .1 .1 .0, (g .1 .1 .1 .0, (g .1 .1 .1 .1 .0, (g .1 .1 .1 .1 .1 .0, (lt-leb (records (w .table)) (linkAt e) (a .inside), (ap not (a .formed), (rw (a .holds, f .code) r, (ap isIllegal makes, (le-ltb (length o) 4240 wide, tt))))))))))))))
 
   taken-so : stepCall (w .table) e o .answer .refusal ≡ 0
   taken-so = ap (λ (z : call.Outcome). z .answer .refusal) (step-accepted (w .table) e o passes makes)
@@ -187,6 +189,16 @@ brings s turns s′ f buffer n1 h calls k i p =
     let w = run (made buffer n1) calls in
     let a = at-each buffer n1 h calls k i in
     f w k record { good = a .good; inside = a .inside; formed = a .formed; holds = λ i. with-state (p i) (linkIn w k) }
+
+-- and where it is not congested
+abbrev free : Link → Link
+free l = with-congested false l
+
+brings-free : (s : State) (turns : World → ℕ → List Turn) (s′ : State) → ((w : World) (k : ℕ) → At w k (with-state s (free (linkIn w k))) → Leads w k (turns w k) s′) → BringsFree s turns s′
+brings-free s turns s′ f buffer n1 h calls k i p c =
+    let w = run (made buffer n1) calls in
+    let a = at-each buffer n1 h calls k i in
+    f w k record { good = a .good; inside = a .inside; formed = a .formed; holds = λ i. with-state (p i) (with-congested (c i) (linkIn w k)) }
 
 -- and where T1 or T2 runs
 running : (t : Timer) (s : State) (turns : World → ℕ → List Turn) (s′ : State) → AfterEachCall (λ w k. linkIn w k .state ≡ s → linkIn w k ≡ with-timer t true (linkIn w k)) →
@@ -332,7 +344,7 @@ module _ (l : Link) where
   unfolding stepOf T2-expires
   late-waiting = refl
 
-  late-asked : stepOf (with-state 2/2/2 l) event.T2 ≡ Legal (with-state 1/4/1 (with-ups Ups.Normal (with-timer T2 false l))) (gives-up 2/2/2)
+  late-asked : stepOf (with-state 2/2/2 l) event.T2 ≡ Legal (with-state 1/4/1 (with-last (field ANS) (with-ups Ups.Normal (with-timer T2 false l)))) (gives-up 2/2/2)
   unfolding stepOf T2-expires
   late-asked = refl
 
@@ -340,11 +352,11 @@ module _ (l : Link) where
   unfolding stepOf T2-expires
   late-disconnecting = refl
 
-  late-proving : stepOf (with-state 2/10/3 l) event.T2 ≡ Legal (with-state 1/4/1 (with-ups Ups.Normal (with-timer T3 false (with-timer T2 false l)))) (gives-up 2/10/3)
+  late-proving : stepOf (with-state 2/10/3 l) event.T2 ≡ Legal (with-state 1/4/1 (with-last (field ANS) (with-ups Ups.Normal (with-timer T3 false (with-timer T2 false l))))) (gives-up 2/10/3)
   unfolding stepOf T2-expires
   late-proving = refl
 
-  late-ready : stepOf (with-state 2/10/4 l) event.T2 ≡ Legal (with-state 1/4/1 (with-ups Ups.Normal (with-timer T2 false l))) (gives-up 2/10/4)
+  late-ready : stepOf (with-state 2/10/4 l) event.T2 ≡ Legal (with-state 1/4/1 (with-last (field ANS) (with-ups Ups.Normal (with-timer T2 false l)))) (gives-up 2/10/4)
   unfolding stepOf T2-expires
   late-ready = refl
 
@@ -367,15 +379,15 @@ module _ (l : Link) where
   unfolding stepOf AAL-MESSAGE-FOR-TRANSMISSION-request
   transmitted = refl
 
-  stop-proving : (k : ℕ) → stepOf (with-state 2/10/3 l) event.Stop ≡ Legal (with-state 1/4/1 (with-ups Ups.Normal (with-timer T3 false (with-timer T2 false l)))) (stops (report LR OOS – ∷ bare STOP-PROVING ∷ bare RESET-T2 ∷ bare RESET-T3 ∷ []) k .signals)
+  stop-proving : (k : ℕ) → stepOf (with-state 2/10/3 l) event.Stop ≡ Legal (with-state 1/4/1 (with-last (field OOS) (with-ups Ups.Normal (with-timer T3 false (with-timer T2 false l))))) (stops (report LR OOS – ∷ bare STOP-PROVING ∷ bare RESET-T2 ∷ bare RESET-T3 ∷ []) k .signals)
   unfolding stepOf AAL-STOP-request
   stop-proving k = refl
 
-  stop-aligned : (k : ℕ) → stepOf (with-state 2/10/4 l) event.Stop ≡ Legal (with-state 1/4/1 (with-ups Ups.Normal (with-timer T2 false l))) (stops (report LR OOS – ∷ bare RESET-T2 ∷ []) k .signals)
+  stop-aligned : (k : ℕ) → stepOf (with-state 2/10/4 l) event.Stop ≡ Legal (with-state 1/4/1 (with-last (field OOS) (with-ups Ups.Normal (with-timer T2 false l)))) (stops (report LR OOS – ∷ bare RESET-T2 ∷ []) k .signals)
   unfolding stepOf AAL-STOP-request
   stop-aligned k = refl
 
-  stop-serving : (k : ℕ) → stepOf (with-state 3/10/5 l) event.Stop ≡ Legal (with-state 1/4/1 (with-ups Ups.Normal l)) (stops (report LR OOS – ∷ []) k .signals)
+  stop-serving : (k : ℕ) → stepOf (with-state 3/10/5 l) event.Stop ≡ Legal (with-state 1/4/1 (with-last (field OOS) (with-ups Ups.Normal l))) (stops (report LR OOS – ∷ []) k .signals)
   unfolding stepOf AAL-STOP-request
   stop-serving k = refl
 
@@ -411,18 +423,18 @@ module _ (l : Link) where
   unfolding stepOf AA-DATA-indication-with-INS
   peer-ready n k = refl
 
--- a connection comes up: BSNT is forgotten
+-- a connection comes up, where the link is not congested: BSNT is forgotten
 abbrev forgetting : Link → Link
 forgetting l = with-bsnt not-retrievable l
 
-confirmed : (l : Link) (peer : Ups) (k : ℕ) → stepOf (with-state 2/2/2 l) (event.EstablishConfirm (asking peer)) ≡ Legal (proving (forgetting l) false (due l peer)) (confirms peer k .signals)
+confirmed : (l : Link) (peer : Ups) (k : ℕ) → stepOf (with-state 2/2/2 (free l)) (event.EstablishConfirm (asking peer)) ≡ Legal (proving (forgetting (free l)) false (due l peer)) (confirms peer k .signals)
 unfolding stepOf AA-ESTABLISH-confirm-with-EM-NM asked
 confirmed l Ups.Normal k = refl
 confirmed l Ups.Emergency k = refl
 
 answered : (l : Link) (peer : Ups) →
-    stepOf (with-state 2/1/2 l) (event.EstablishIndication (asking peer))
-    ≡ Legal (proving (forgetting (with-timer T1 false l)) false (due l peer)) (response l ∷ bare START-PROVING ∷ bare RESET-T1 ∷ bare SET-T3 ∷ [])
+    stepOf (with-state 2/1/2 (free l)) (event.EstablishIndication (asking peer))
+    ≡ Legal (proving (forgetting (with-timer T1 false (free l))) false (due l peer)) (response l ∷ bare START-PROVING ∷ bare RESET-T1 ∷ bare SET-T3 ∷ [])
 unfolding stepOf AA-ESTABLISH-indication-with-EM-NM asked
 answered l Ups.Normal = refl
 answered l Ups.Emergency = refl
@@ -456,17 +468,17 @@ sooner-leads k l a b n =
 
 -- into service after turns that bring the connection up, with C1 decided
 module _ (s : State) (peer : Ups) (turns : World → ℕ → List Turn) (then : Link → Link)
-    (up : (w : World) (k : ℕ) → At w k (with-state s (with-lpo false (linkIn w k))) →
-    (more : List Turn) → ((w′ : World) → At w′ k (proving (with-lpo false (forgetting (then (linkIn w k)))) false (due (linkIn w k) peer)) → Leads w′ k more 3/10/5) →
+    (up : (w : World) (k : ℕ) → At w k (with-state s (with-lpo false (free (linkIn w k)))) →
+    (more : List Turn) → ((w′ : World) → At w′ k (proving (with-lpo false (forgetting (then (free (linkIn w k))))) false (due (linkIn w k) peer)) → Leads w′ k more 3/10/5) →
     Leads w k (turns w k ++ more) 3/10/5) where
   into-service : Serves s peer turns
-  into-service buffer n1 h calls k i p q n a b e =
+  into-service buffer n1 h calls k i p c q n a b e =
       let w = run (made buffer n1) calls in
       let l = linkIn w k in
       let x = at-each buffer n1 h calls k i in
-      let here : At w k (with-state s (with-lpo false l)) = record { good = x .good; inside = x .inside; formed = x .formed; holds = λ i. with-state (p i) (with-lpo (q i) l) } in
+      let here : At w k (with-state s (with-lpo false (free l))) = record { good = x .good; inside = x .inside; formed = x .formed; holds = λ i. with-state (p i) (with-lpo (q i) (with-congested (c i) l)) } in
       let d : due l peer ≡ a + b = ap (table7 (l .mps) (l .ups) peer) (n1-each buffer n1 h calls k i) ∙ sym e in
-      let m = forgetting (then l) in
+      let m = forgetting (then (free l)) in
       let so : (w′ : World) → At w′ k (proving (with-lpo false m) false (due l peer)) → At w′ k (proving (with-lpo false m) false (a + b)) =
       λ w′. subst (λ (c : ℕ). At w′ k (proving (with-lpo false m) false c)) d in (
         up w k here (later (a + b) n k) (λ w′ x. later-leads k m (a + b) n w′ (so w′ x)),
@@ -481,14 +493,14 @@ snpc1 =
       waiting = λ peer. into-service 2/1/2 peer (λ w k. answers peer w k ∷ []) (with-timer T1 false)
           (λ w k a more rest. led a (hands-indication peer k) refl (answered (with-lpo false (linkIn w k)) peer) more 3/10/5 rest);
       after-START = λ peer s f. into-service 1/1/1 peer (λ w k. starts w k ∷ fails s f k ∷ answers peer w k ∷ []) (λ l. with-timer T1 false (with-timer T1 true (with-timer T2 true l)))
-          (λ w k a more rest. let l = with-timer T2 true (with-lpo false (linkIn w k)) in
-          led a (hands-start k) refl (start-idle (with-lpo false (linkIn w k))) (fails s f k ∷ answers peer w k ∷ more) 3/10/5
+          (λ w k a more rest. let l = with-timer T2 true (with-lpo false (free (linkIn w k))) in
+          led a (hands-start k) refl (start-idle (with-lpo false (free (linkIn w k)))) (fails s f k ∷ answers peer w k ∷ more) 3/10/5
           (λ w₁ a. led a (hands-release s f k) refl (rejected l s f) (answers peer w k ∷ more) 3/10/5
           (λ w₂ a. led a (hands-indication peer k) refl (answered (with-timer T1 true l) peer) more 3/10/5 rest)));
     }
 
 pub snpc2 : SNPC2
-snpc2 peer = brings 2/1/2 (λ w k. answers peer w k ∷ []) 2/10/3 (λ w k a. led a (hands-indication peer k) refl (answered (linkIn w k) peer) [] 2/10/3 ended)
+snpc2 peer = brings-free 2/1/2 (λ w k. answers peer w k ∷ []) 2/10/3 (λ w k a. led a (hands-indication peer k) refl (answered (linkIn w k) peer) [] 2/10/3 ended)
 
 pub snpc3 : SNPC3
 snpc3 =
@@ -512,7 +524,7 @@ snpc5 =
       asked = λ peer. into-service 2/2/2 peer (λ w k. confirms peer k ∷ []) (λ l. l)
           (λ w k a more rest. led a (hands-confirm peer k) refl (confirmed (with-lpo false (linkIn w k)) peer k) more 3/10/5 rest);
       after-START = λ peer. into-service 1/1/1 peer (λ w k. starts w k ∷ confirms peer k ∷ []) (with-timer T2 true)
-          (λ w k a more rest. led a (hands-start k) refl (start-idle (with-lpo false (linkIn w k))) (confirms peer k ∷ more) 3/10/5
+          (λ w k a more rest. led a (hands-start k) refl (start-idle (with-lpo false (free (linkIn w k)))) (confirms peer k ∷ more) 3/10/5
           (λ w₁ a. led a (hands-confirm peer k) refl (confirmed (with-timer T2 true (with-lpo false (linkIn w k))) peer k) more 3/10/5 rest));
     }
 
@@ -586,13 +598,12 @@ abbrev Coded? : Outcome → Type 0
 Coded? Illegal = Unit {0}
 Coded? (Legal l ss) = every (oneOf all) (map coding ss) ≡ true
 
-of-choice : (l : Link) (m : Meeting) (c : Choice) → Coded? (outcome l m c)
-of-choice l m illegal = tt
-of-choice l m (does acts next) = all-listed (m .param) (m .number) (l .mps) (l .ups) (l .bsnt .num) (signals acts)
+of-summed : (l : Link) (m : Meeting) (z : Summed) → Coded? (outcomeOf l m z)
+of-summed l m refused = tt
+of-summed l m (summed s says next) = all-listed (m .param) (m .number) (l .mps) (l .ups) (l .bsnt .num) says
 
 of-step : (l : Link) (x : Event) → Coded? (stepOf l x)
-unfolding stepOf
-of-step l x = let m = meeting x (l .c1) in of-choice l m (chosen (facts l m) (cell (printed (facts l m) (m .heading .row)) (l .state)))
+of-step l x = let v = viewOf x (l .c1) in subst Coded? (as-met l x) (of-summed l (meetingOf v) (goesOn (l .congested) (l .state) (met (v .0) (l .state) (factsOf l v))))
 
 read-codes : (k : ℕ) (m : List ℕ) (ss : List Signal) → map codeAt (map (signalOctets k m) ss) ≡ map coding ss
 unfolding written
@@ -653,8 +664,8 @@ snsp2 =
           (λ w k a. led a (hands-start k) refl (start-idle (linkIn w k)) (expires 2/2/2 k ∷ []) 1/4/1
           (λ w₁ a. led a (hands-t2 k) refl (late-asked (with-timer T2 true (linkIn w k))) [] 1/4/1 ended));
       waiting = late 2/1/2 1/1/1 refl (λ l. with-ups Ups.Normal (with-timer T1 false (with-timer T2 false l))) late-waiting;
-      asked = late 2/2/2 1/4/1 refl (λ l. with-ups Ups.Normal (with-timer T2 false l)) late-asked;
+      asked = late 2/2/2 1/4/1 refl (λ l. with-last (field ANS) (with-ups Ups.Normal (with-timer T2 false l))) late-asked;
       disconnecting = late 2/4/2 1/4/1 refl (λ l. with-ups Ups.Normal (with-timer T2 false l)) late-disconnecting;
-      proving = late 2/10/3 1/4/1 refl (λ l. with-ups Ups.Normal (with-timer T3 false (with-timer T2 false l))) late-proving;
-      ready = late 2/10/4 1/4/1 refl (λ l. with-ups Ups.Normal (with-timer T2 false l)) late-ready;
+      proving = late 2/10/3 1/4/1 refl (λ l. with-last (field ANS) (with-ups Ups.Normal (with-timer T3 false (with-timer T2 false l)))) late-proving;
+      ready = late 2/10/4 1/4/1 refl (λ l. with-last (field ANS) (with-ups Ups.Normal (with-timer T2 false l))) late-ready;
     }

@@ -1,7 +1,7 @@
 -- What a link's record says of its history, and that it does so after each call. Assumes nothing.
 use mathlib.Core.Path.{_≡_, refl, sym, ap, _∙_}
 use mathlib.Core.Bool.{Bool, true, false, cond, not, _&&_, _||_, Bool·beq, false≢true}
-use mathlib.Core.List.{List, [], _∷_, _++_, map}
+use mathlib.Core.List.{List, [], _∷_, map}
 use mathlib.Core.Option.{Option, none, some}
 use Prim.Native.Nat.{ℕ, zero, suc, _+_, _-_, _≤_}
 use native.Mathlib.Omega.{arith}
@@ -13,11 +13,8 @@ use Rattle.unit.specs.Unit.{arrived}
 use Rattle.unit.specs.Proving.{mpsCode, upsCode, asked, table7}
 use Rattle.table6.specs.declared.State.{State}
 use Rattle.table6.specs.Cell as table6
-use Rattle.table6.specs.Cell.{Choice, illegal, does}
-use Rattle.table6.specs.Order.{signals}
-use Rattle.table6.specs.Rows.{heading}
-use Rattle.table6.specs.Summary.{Op, keep, put, over, Count, same, decided, less, Summary, still, summary, sum}
-use Rattle.table6.proofs.Every.{left, right, Holds}
+use Rattle.table6.specs.Summary.{Op, keep, put, over, Count, same, decided, less, Summary, summed}
+use Rattle.table6.proofs.Every.{left, right}
 use Rattle.link.specs.declared.Num.{Num}
 use Rattle.link.specs.declared.Link.{Link}
 use Rattle.link.specs.declared.View.{View}
@@ -25,8 +22,8 @@ use Rattle.link.specs.declared.Signal.{Signal}
 use Rattle.link.specs.Effect.{with-state}
 use Rattle.link.specs.Fresh.{freshLink}
 use Rattle.link.specs.Signal.{signalOf}
-use Rattle.link.specs.Stored.{viewOf, meetingOf, factsOf, counted, summedUp}
-use Rattle.link.proofs.Performed.{outcomeOf, choiceOf, by-choice}
+use Rattle.link.specs.Stored.{viewOf, meetingOf, counted, summedUp}
+use Rattle.link.proofs.Performed.{outcomeOf}
 use Rattle.record.specs.LinkRecord.{mpsAt, upsAt}
 use Rattle.event.specs.Frame.{written, linkAt, codeAt, paramAt, numberAt, messageOf}
 use Rattle.event.specs.EventRecord.{eventOf}
@@ -36,7 +33,7 @@ use Rattle.history.specs.Tests.{stands, alive, sent, due, toldIns, heard
 use Rattle.history.proofs.Lawful.{lawful}
 use Rattle.history.proofs.Walk.{Base, held, new, Conn, dead, live, Abs, abs, Found, sentAt, dueAt, ConnIs, Is, Is?, Before, ruleEvent, ruleSignal, signal-ok, event-ok}
 use Rattle.history.proofs.Table.{Now, down, on, serving, now, Sort, begin, level, sign, sign-of, told}
-use Rattle.history.proofs.Table.{takes, decides, least, counts, still-level, sameOp, fits, ends, leads, sortAt, table-ok, choice-ok}
+use Rattle.history.proofs.Table.{takes, decides, least, counts, still-level, sameOp, fits, ends, leads, sortAt, table-ok, by-test}
 use Rattle.history.proofs.Calls.{Keeps, Invariant}
 use Rattle.history.proofs.Events.{Told, sorted}
 
@@ -130,13 +127,13 @@ module _ (n1 : ℕ) (l : Link) (h : List Mark) (v : Inv n1 l h) (k : ℕ) (m : L
     spoken a = signalOctets k m (signalOf q n (l .mps) (l .ups) b a)
 
     abbrev markOf : table6.Told → Mark
-    markOf a = emitted (signalOf q n (l .mps) (l .ups) b a .code) (arrived (bodyOf (signalOf q n (l .mps) (l .ups) b a .carries) m))
+    markOf a = emitted (signalOf q n (l .mps) (l .ups) b a .code) (signalOf q n (l .mps) (l .ups) b a .param) (arrived (bodyOf (signalOf q n (l .mps) (l .ups) b a .carries) m))
 
     one-signal : (a : table6.Told) (A : Abs) (g : List Mark) → Is (found n1 l h s p) A g →
         Is? (found n1 l h s p) (ruleSignal (level s (here l)) (s .above) (s .long) (sign a .code) (sign a .carries) A) (markOf a ∷ g)
     one-signal a A g i =
         let (x, y) = sign-of q n (l .mps) (l .ups) b a in
-        rw (x, y) (signal-ok (found n1 l h s p) g all-sent some-due m (s .long) (t .long) A i (sign a .code) (sign a .carries))
+        rw (x, y) (signal-ok (found n1 l h s p) g (signalOf q n (l .mps) (l .ups) b a .param) all-sent some-due m (s .long) (t .long) A i (sign a .code) (sign a .carries))
 
     signals-ok : (acts : List table6.Told) (o : Option Abs) (g : List Mark) → Is? (found n1 l h s p) o g →
         Is? (found n1 l h s p) (told (level s (here l)) s acts o) (with-signals (map spoken acts) g)
@@ -215,9 +212,9 @@ twice k m f (a ∷ acts) = ap (λ (x : List (List ℕ)). signalOctets k m (f a) 
 
 -- THE STEP, by the row that its event meets
 module _ (n1 : ℕ) (l : Link) (h : List Mark) (v : Inv n1 l h) (e : List ℕ) (x : View) (t : Told (sortAt (x .0)) (codeAt e) (paramAt e) (arrived (messageOf e)) (l .c1) (x .1)) where
-  chosen-ok : (y : Choice) → Holds (leads (sortAt (x .0)) (l .state) (l .ins) (heading (x .0) .arrives)) [] y → Keeps Inv n1 h e (outcomeOf l (meetingOf x) (sum (heading (x .0) .arrives) y))
-  chosen-ok illegal i = tt
-  chosen-ok (does acts next) i =
+  led-so : (r : Summary) (says : List table6.Told) (next : State) → leads (sortAt (x .0)) (l .state) (l .ins) r says next ≡ true →
+      Keeps Inv n1 h e (outcomeOf l (meetingOf x) (summed r says next))
+  led-so r says next i =
       let s = sortAt (x .0) in
       let k = linkAt e in
       let m = messageOf e in
@@ -225,16 +222,13 @@ module _ (n1 : ℕ) (l : Link) (h : List Mark) (v : Inv n1 l h) (e : List ℕ) (
       let p = paramAt e in
       let n = numberAt e in
       let first = ruleEvent (s .mark) (abs (serving (l .state)) (begin (here l)) keep keep) in
-      rw (twice k m (signalOf (x .1) (x .2) (l .mps) (l .ups) (l .bsnt .num)) (signals acts))
-      (ended n1 l h v k m s c p n (x .1) t (told (level s (here l)) s (signals acts) first) (summary (heading (x .0) .arrives ++ acts) still) (x .2) next _ i
-      (signals-ok n1 l h v k m s c p n (x .1) t (x .1) (x .2) (l .bsnt .num) (signals acts) first (eventMark e ∷ h) (first-mark n1 l h v k m s c p n (x .1) t)))
+      rw (twice k m (signalOf (x .1) (x .2) (l .mps) (l .ups) (l .bsnt .num)) says)
+      (ended n1 l h v k m s c p n (x .1) t (told (level s (here l)) s says first) r (x .2) next _ i
+      (signals-ok n1 l h v k m s c p n (x .1) t (x .1) (x .2) (l .bsnt .num) says first (eventMark e ∷ h) (first-mark n1 l h v k m s c p n (x .1) t)))
 
 pub keeps-inv : Invariant Inv
 keeps-inv =
     record {
       begins = fresh-ok;
-      goes-on = λ n1 l h v e p.
-          let x = viewOf (eventOf e) (l .c1) in
-          by-choice (Keeps Inv n1 h e) l (eventOf e)
-          (chosen-ok n1 l h v e x (sorted e p (l .c1)) (choiceOf l x) (choice-ok leads (l .state) (factsOf l x) table-ok (x .0)));
+      goes-on = λ n1 l h v e p. by-test leads table-ok (Keeps Inv n1 h e) l (eventOf e) tt (led-so n1 l h v e (viewOf (eventOf e) (l .c1)) (sorted e p (l .c1)));
     }

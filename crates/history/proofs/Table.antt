@@ -1,6 +1,6 @@
 -- THE TEST OVER TABLE 6, computed: in every cell the marks of the event and of its signals, and what becomes of the record, lead from what a link's state
--- says of its history to what its next state says. Beside it the law that turns the test into what holds of a choice. Only `table-ok` depends on what the
--- table contains. Assumes nothing.
+-- says of its history to what its next state says, also with congestion behind a cell that leads to proving. Beside it the law that turns such a test into what
+-- holds of a step. Only `table-ok` depends on what the table contains. Assumes nothing.
 use mathlib.Core.Path.{_≡_, refl}
 use mathlib.Core.Bool.{Bool, true, false, cond, not, _&&_, _||_, Bool·beq, false≢true}
 use mathlib.Core.List.{List, [], _∷_, _++_, append-nil}
@@ -15,17 +15,25 @@ use Rattle.unit.specs.Proving.{mpsCode, upsCode}
 use Rattle.table6.specs.declared.State.{State}
 use Rattle.table6.specs.declared.Facts.{Facts}
 use Rattle.table6.specs.Cell.{Cond, LPO=0, LPO=0&INS=0, LPO=0&INS=1, UU=EM-or-NM, Source=User, BSNT-available, MU>4, holds}
-use Rattle.table6.specs.Cell.{Told, Act, tell, alter, Cell, Illegal, to, _⨟_, _⨾_, IF_THEN_ELSE_, Row, cell, chosen}
+use Rattle.table6.specs.Cell.{Told, Act, tell, alter, Cell, Illegal, to, _⨟_, _⨾_, IF_THEN_ELSE_, Row, cell, Choice, illegal, does, chosen}
 use Rattle.table6.specs.Order.{signals}
 use Rattle.table6.specs.Rows.{Printed, one, two, printed, Heading, rows, nowhere, heading}
-use Rattle.table6.specs.Summary.{Op, keep, put, over, Count, same, decided, less, Summary, still, summary}
+use Rattle.table6.specs.Words.{2/4/2, is-2/10/3}
+use Rattle.table6.specs.Summary.{Op, keep, put, over, Count, same, decided, less, Summary, still, summary, summed, sum}
+use Rattle.table6.specs.Stored.{givesUp, goesOn}
 use Rattle.table6.specs.Every.{in-states}
 use Rattle.table6.proofs.Every.{left, right, of-states, Holds, one-more, no-row}
 use Rattle.table6.proofs.Unfolded.{every-row}
 use Rattle.link.specs.declared.Num.{Num}
+use Rattle.link.specs.declared.Link.{Link}
+use Rattle.link.specs.declared.Event.{Event}
+use Rattle.link.specs.declared.View.{View}
 use Rattle.link.specs.declared.Signal.{Signal}
 use Rattle.link.specs.Signal as link
 use Rattle.link.specs.Signal.{signalOf}
+use Rattle.link.specs.Step as machine
+use Rattle.link.specs.Stored.{viewOf, meetingOf, factsOf}
+use Rattle.link.proofs.Performed.{outcomeOf, choiceOf, by-choice}
 use Rattle.history.proofs.Walk.{Base, held, new, Conn, dead, live, Abs, abs, Kind, quiet, stops, confirms, releases, hears, receives, wishes, forces, ruleSignal, ruleEvent}
 
 -- WHAT A STATE SAYS of the history, with the INS flag: no connection; or one on which the INS unit was sent or not, the peer's was received or not, and C1 is
@@ -105,7 +113,10 @@ sorts =
     ∷ record { mark = quiet; zero = true; above = false; field = false; long = false }  -- T3, C1 = 0
     ∷ []
 
--- THE TEST
+-- THE TEST. Such a test asks of a sort of event, of the state and the INS flag that it finds, and of what it leads to: what becomes of the record, what is told,
+-- the next state.
+abbrev pub Asks : Type 0
+Asks = Sort → State → Bool → Summary → List Told → State → Bool
 
 abbrev pub begin : Now → Conn
 begin down = dead
@@ -165,11 +176,9 @@ ends z s flag r next none = false
 ends z s flag r next (some (abs st c u m)) =
     Bool·beq st (serving next) && (sameOp upsCode u (r .ups) && (sameOp mpsCode m (r .mps) && fits z s (r .c1) c (now next (over (r .ins) flag))))
 
--- the actions of an alternative, behind what the event does by itself
-abbrev pub leads : Sort → State → Bool → List Act → List Act → State → Bool
-leads s st flag arrives acts next =
-    ends (level s (now st flag)) s flag (summary (arrives ++ acts) still) next
-    (told (level s (now st flag)) s (signals acts) (ruleEvent (s .mark) (abs (serving st) (begin (now st flag)) keep keep)))
+abbrev pub leads : Asks
+leads s st flag r says next =
+    ends (level s (now st flag)) s flag r next (told (level s (now st flag)) s says (ruleEvent (s .mark) (abs (serving st) (begin (now st flag)) keep keep)))
 
 -- a condition that cannot hold at this INS flag
 abbrev never : Cond → Bool → Bool
@@ -188,9 +197,15 @@ in-cell t flag acts (a ⨟ c) = in-cell t flag (acts ++ tell a ∷ []) c
 in-cell t flag acts (a ⨾ c) = in-cell t flag (acts ++ alter a ∷ []) c
 in-cell t flag acts (IF q THEN c ELSE d) = cond (never q flag) true (in-cell t flag acts c) && in-cell t flag acts d
 
--- What such a test asks of a sort of event, of the state and the INS flag that it finds, of what it does by itself, and of an alternative.
+-- What a cell is asked: of a sort of event, of the state and the INS flag, of what the event does by itself, and of an alternative.
 abbrev pub Test : Type 0
 Test = Sort → State → Bool → List Act → List Act → State → Bool
+
+-- A test is put to these, summed up; and where they lead to 2/10/3 from another state, to the same with congestion there behind it, as a congested link goes on.
+abbrev pub onward : Asks → Test
+onward t s st flag arrives acts next =
+    let r = summary (arrives ++ acts) still in
+    t s st flag r (signals acts) next && cond (not (is-2/10/3 st) && is-2/10/3 next) (t s st flag (summary givesUp r) (signals acts ++ signals givesUp) 2/4/2) true
 
 abbrev in-row : Test → Sort → State → Bool → List Act → Row → Bool
 in-row t s st flag arrives r = in-cell (t s st flag arrives) flag [] (cell r st)
@@ -209,7 +224,7 @@ in-rows t st flag (s ∷ ss) (h ∷ hs) = in-printed t s st flag (h .arrives) (h
 abbrev pub Passes : Test → Type 0
 Passes t = in-states (λ st. in-rows t st false sorts rows && in-rows t st true sorts rows) ≡ true
 
-pub table-ok : Passes leads
+pub table-ok : Passes (onward leads)
 unfolding every-row
 table-ok = refl
 
@@ -286,3 +301,32 @@ module _ (t : Test) (st : State) (f : Facts) where
   -- what the facts choose in any row passes
   pub choice-ok : Passes t → (row : ℕ) → At (sortAt row) (heading row)
   choice-ok h row = of-rows sorts rows (by-flag (f .ins) (of-states (λ st. in-rows t st false sorts rows && in-rows t st true sorts rows) h st)) row
+
+-- AND TO A STEP: what holds where the event is illegal, and of all that passes the test, holds of the step
+module _ (t : Asks) (passes : Passes (onward t)) (P : machine.Outcome → Type 0) (l : Link) (e : Event) (no : P machine.Illegal) where
+  abbrev seen : View
+  seen = viewOf e (l .c1)
+
+  module _ (so : (r : Summary) (says : List Told) (next : State) → t (sortAt (seen .0)) (l .state) (l .ins) r says next ≡ true → P (outcomeOf l (meetingOf seen) (summed r says next))) where
+    of-chosen : (arrives : List Act) (x : Choice) → Holds (onward t (sortAt (seen .0)) (l .state) (l .ins) arrives) [] x →
+        P (outcomeOf l (meetingOf seen) (goesOn (l .congested) (l .state) (sum arrives x)))
+    of-chosen arrives illegal h = no
+    of-chosen arrives (does acts next) h = by (not (is-2/10/3 (l .state))) (is-2/10/3 next) (over (r .congested) (l .congested)) (right (asks r (signals acts) next) _ h) where
+      r : Summary
+      r = summary (arrives ++ acts) still
+
+      asks : Summary → List Told → State → Bool
+      asks = t (sortAt (seen .0)) (l .state) (l .ins)
+
+      alone : P (outcomeOf l (meetingOf seen) (summed r (signals acts) next))
+      alone = so r (signals acts) next (left (asks r (signals acts) next) _ h)
+
+      by : (a b c : Bool) → cond (a && b) (asks (summary givesUp r) (signals acts ++ signals givesUp) 2/4/2) true ≡ true →
+          P (outcomeOf l (meetingOf seen) (cond (a && (b && c)) (summed (summary givesUp r) (signals acts ++ signals givesUp) 2/4/2) (summed r (signals acts) next)))
+      by true true true k = so (summary givesUp r) (signals acts ++ signals givesUp) 2/4/2 k
+      by true true false k = alone
+      by true false c k = alone
+      by false b c k = alone
+
+    pub by-test : P (machine.stepOf l e)
+    by-test = by-choice P l e (of-chosen (heading (seen .0) .arrives) (choiceOf l seen) (choice-ok (onward t) (l .state) (factsOf l seen) passes (seen .0)))

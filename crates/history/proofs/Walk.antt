@@ -188,18 +188,18 @@ conn-same : (f : Found) (c : Conn) (h h′ : List Mark) → Same (f .n1) h h′ 
 conn-same f dead h h′ s k = s .alive-is ∙ k
 conn-same f (live a g b n) h h′ s k = (s .alive-is ∙ k .0, s .told-is ∙ k .1, s .heard-is ∙ k .2, s .sent-is ∙ k .3, s .due-is ∙ k .4)
 
--- THE SIGNALS OF AN EVENT
-module _ (f : Found) (h : List Mark) (level : f .level ≡ true → f .sent ≡ f .due) (above : f .above ≡ true → 1 ≤ f .due) where
+-- THE SIGNALS OF AN EVENT, each with a parameter of its own
+module _ (f : Found) (h : List Mark) (param : ℕ) (level : f .level ≡ true → f .sent ≡ f .due) (above : f .above ≡ true → 1 ≤ f .due) where
   abbrev Then : Option Abs → Mark → Type 0
   Then o m = Is? f o (m ∷ h)
 
-  up-ok : (x : Arrived) (A : Abs) → Is f A h → Then (ruleUp A) (emitted ESTABLISH-response x)
+  up-ok : (x : Arrived) (A : Abs) → Is f A h → Then (ruleUp A) (emitted ESTABLISH-response param x)
   unfolding stands alive toldIns heardIns sent due lawful
   up-ok x (abs s c keep keep) k = (k .0, (refl, refl, refl, refl, rw (k .2, k .3, k .4)), k .2, k .3, k .4, k .5)
   up-ok x (abs s c keep (put y)) k = tt
   up-ok x (abs s c (put y) m) k = tt
 
-  released-ok : (x : Arrived) (A : Abs) → Is f A h → Then (ruleReleased A) (emitted RELEASE-request x)
+  released-ok : (x : Arrived) (A : Abs) → Is f A h → Then (ruleReleased A) (emitted RELEASE-request param x)
   unfolding stands alive lawful
   released-ok x (abs s c u m) k = (k .0, refl, k .2, k .3, k .4, k .5)
 
@@ -209,12 +209,12 @@ module _ (f : Found) (h : List Mark) (level : f .level ≡ true → f .sent ≡ 
   not-forced Mps.Normal d i e = refl
   not-forced Mps.Emergency d i e = absurd (omega (arith, e, none-if-emergency (ups (from edge h)) (field (from edge h)) (f .n1)))
 
-  proving-ok : (A : Abs) → Is f A h → Then (ruleProving (f .above) A) (emitted DATA-request Arrived.NM)
+  proving-ok : (A : Abs) → Is f A h → Then (ruleProving (f .above) A) (emitted DATA-request param Arrived.NM)
   unfolding stands alive toldIns heardIns sent due lawful
   proving-ok (abs s dead u m) k = tt
   proving-ok (abs s (live a g new n) u m) k = tt
   proving-ok (abs s (live a g held n) u m) k = by (f .above) refl where
-    by : (b : Bool) → f .above ≡ b → Then (cond b (some (abs s (live a g held (suc n)) u m)) none) (emitted DATA-request Arrived.NM)
+    by : (b : Bool) → f .above ≡ b → Then (cond b (some (abs s (live a g held (suc n)) u m)) none) (emitted DATA-request param Arrived.NM)
     by true e =
         let free = not-forced (mps (from edge h)) (due (f .n1) h) (omega (arith, above e, k .1 .4)) refl in
         (k .0, (k .1 .0, k .1 .1, k .1 .2, omega (arith, k .1 .3), k .1 .4), k .2, k .3, k .4, rw (k .1 .0, free) (k .5))
@@ -223,37 +223,37 @@ module _ (f : Found) (h : List Mark) (level : f .level ≡ true → f .sent ≡ 
   all-sent : f .level ≡ true → sent h ≡ 0 + f .sent → due (f .n1) h ≡ f .due → eqb (sent h) (due (f .n1) h) ≡ true
   all-sent e i j = eq-eqb (sent h) (due (f .n1) h) (omega (arith, level e))
 
-  ins-ok : (A : Abs) → Is f A h → Then (ruleIns (f .level) A) (emitted DATA-request Arrived.INS)
+  ins-ok : (A : Abs) → Is f A h → Then (ruleIns (f .level) A) (emitted DATA-request param Arrived.INS)
   unfolding stands alive toldIns heardIns sent due lawful
   ins-ok (abs s dead u m) k = tt
   ins-ok (abs s (live a g new n) u m) k = tt
   ins-ok (abs s (live a g held zero) u m) k = by (f .level) refl where
-    by : (b : Bool) → f .level ≡ b → Then (cond b (some (abs s (live true g held zero) u m)) none) (emitted DATA-request Arrived.INS)
+    by : (b : Bool) → f .level ≡ b → Then (cond b (some (abs s (live true g held zero) u m)) none) (emitted DATA-request param Arrived.INS)
     by true e = (k .0, (k .1 .0, rw (all-sent e (k .1 .3) (k .1 .4)), k .1 .2, k .1 .3, k .1 .4), k .2, k .3, k .4, k .5)
     by false e = tt
   ins-ok (abs s (live a g held (suc n)) u m) k = tt
 
   -- a mark that is no edge and no unit leaves the connection as it was
-  emitted-same : (c : ℕ) (x : Arrived) → eqb c ESTABLISH-response ≡ false → eqb c RELEASE-request ≡ false → eqb c DATA-request ≡ false → Same (f .n1) h (emitted c x ∷ h)
+  emitted-same : (c : ℕ) (x : Arrived) → eqb c ESTABLISH-response ≡ false → eqb c RELEASE-request ≡ false → eqb c DATA-request ≡ false → Same (f .n1) h (emitted c param x ∷ h)
   unfolding alive toldIns heardIns sent due
   emitted-same c x p q r =
       record { alive-is = simp (p, q); told-is = simp (p, q, r); heard-is = simp (p, q); sent-is = simp (p, q, r); due-is = simp (p, q) }
 
-  long-same : Same (f .n1) h (emitted DATA-request Arrived.Long ∷ h)
+  long-same : Same (f .n1) h (emitted DATA-request param Arrived.Long ∷ h)
   unfolding alive toldIns heardIns sent due
   long-same = record { alive-is = refl; told-is = refl; heard-is = refl; sent-is = refl; due-is = refl }
 
-  same-ok : (c : ℕ) (x : Arrived) (A : Abs) → Is f A h → eqb c IN-SERVICE ≡ false → eqb c OUT-OF-SERVICE ≡ false → eqb c DATA-request && isNM x ≡ false → Same (f .n1) h (emitted c x ∷ h) →
-      Then (some A) (emitted c x)
+  same-ok : (c : ℕ) (x : Arrived) (A : Abs) → Is f A h → eqb c IN-SERVICE ≡ false → eqb c OUT-OF-SERVICE ≡ false → eqb c DATA-request && isNM x ≡ false → Same (f .n1) h (emitted c param x ∷ h) →
+      Then (some A) (emitted c param x)
   unfolding stands lawful
   same-ok c x (abs s y u m) k p q r e = (simp (p, q) (k .0), conn-same f y h _ e (k .1), simp q (k .2), k .3, k .4, simp (p, r) (k .5))
 
-  in-ok : (x : Arrived) (A : Abs) → Is f A h → Then (ruleIn (f .level) A) (emitted IN-SERVICE x)
+  in-ok : (x : Arrived) (A : Abs) → Is f A h → Then (ruleIn (f .level) A) (emitted IN-SERVICE param x)
   unfolding stands lawful
   in-ok x (abs s dead u m) k = tt
   in-ok x (abs s (live a g new n) u m) k = tt
   in-ok x (abs s (live true true held zero) u m) k = by (f .level) refl where
-    by : (b : Bool) → f .level ≡ b → Then (cond b (some (abs true (live true true held zero) u m)) none) (emitted IN-SERVICE x)
+    by : (b : Bool) → f .level ≡ b → Then (cond b (some (abs true (live true true held zero) u m)) none) (emitted IN-SERVICE param x)
     by true e =
         let all = all-sent e (k .1 .3) (k .1 .4) in
         (refl, conn-same f (live true true held zero) h _ (emitted-same IN-SERVICE x refl refl refl) (k .1), k .2, k .3, k .4, rw (k .1 .0, all, k .1 .1, k .1 .2) (k .5))
@@ -262,13 +262,13 @@ module _ (f : Found) (h : List Mark) (level : f .level ≡ true → f .sent ≡ 
   in-ok x (abs s (live false g held zero) u m) k = tt
   in-ok x (abs s (live a g held (suc n)) u m) k = tt
 
-  out-ok : (x : Arrived) (A : Abs) → Is f A h → Then (ruleOut A) (emitted OUT-OF-SERVICE x)
+  out-ok : (x : Arrived) (A : Abs) → Is f A h → Then (ruleOut A) (emitted OUT-OF-SERVICE param x)
   unfolding stands lawful
   out-ok x (abs s c u m) k = (refl, conn-same f c h _ (emitted-same OUT-OF-SERVICE x refl refl refl) (k .1), refl, k .3, k .4, k .5)
 
   -- a signal that carries data: the unit that it names, or the event's own message
   module _ (message : List ℕ) (long : Bool) (no-unit : long ≡ true → arrived message ≡ Arrived.Long) (A : Abs) (k : Is f A h) where
-    unit-ok : (s : Status) → Then (ruleUnit (f .level) (f .above) s A) (emitted DATA-request (arrived (unitOf s)))
+    unit-ok : (s : Status) → Then (ruleUnit (f .level) (f .above) s A) (emitted DATA-request param (arrived (unitOf s)))
     unfolding arrived unitOf kind
     unit-ok Status.OOS = tt
     unit-ok Status.PO = tt
@@ -280,22 +280,22 @@ module _ (f : Found) (h : List Mark) (level : f .level ≡ true → f .sent ≡ 
     unit-ok Status.PE = tt
     unit-ok Status.PNS = tt
 
-    own-ok : (b : Bool) → long ≡ b → Then (cond b (some A) none) (emitted DATA-request (arrived message))
+    own-ok : (b : Bool) → long ≡ b → Then (cond b (some A) none) (emitted DATA-request param (arrived message))
     own-ok true e = rw (no-unit e) (same-ok DATA-request Arrived.Long A k refl refl refl long-same)
     own-ok false e = tt
 
-    data-ok : (b : Carries) → Then (ruleData (f .level) (f .above) long b A) (emitted DATA-request (arrived (bodyOf b message)))
+    data-ok : (b : Carries) → Then (ruleData (f .level) (f .above) long b A) (emitted DATA-request param (arrived (bodyOf b message)))
     data-ok Carries.Nothing = tt
     data-ok (Carries.Unit s) = unit-ok s
     data-ok Carries.Message = own-ok long refl
 
-    pub signal-ok : (c : ℕ) (b : Carries) → Then (ruleSignal (f .level) (f .above) long c b A) (emitted c (arrived (bodyOf b message)))
+    pub signal-ok : (c : ℕ) (b : Carries) → Then (ruleSignal (f .level) (f .above) long c b A) (emitted c param (arrived (bodyOf b message)))
     signal-ok c b = by (eqb c IN-SERVICE) (eqb c OUT-OF-SERVICE) (eqb c ESTABLISH-response) (eqb c RELEASE-request) (eqb c DATA-request) refl refl refl refl refl where
       x : Arrived
       x = arrived (bodyOf b message)
 
       by : (p q r s t : Bool) → eqb c IN-SERVICE ≡ p → eqb c OUT-OF-SERVICE ≡ q → eqb c ESTABLISH-response ≡ r → eqb c RELEASE-request ≡ s → eqb c DATA-request ≡ t →
-          Then (cond p (ruleIn (f .level) A) (cond q (ruleOut A) (cond r (ruleUp A) (cond s (ruleReleased A) (cond t (ruleData (f .level) (f .above) long b A) (some A)))))) (emitted c x)
+          Then (cond p (ruleIn (f .level) A) (cond q (ruleOut A) (cond r (ruleUp A) (cond s (ruleReleased A) (cond t (ruleData (f .level) (f .above) long b A) (some A)))))) (emitted c param x)
       by true q r s t e₁ e₂ e₃ e₄ e₅ = rw (eqb-true c IN-SERVICE e₁) (in-ok x A k)
       by false true r s t e₁ e₂ e₃ e₄ e₅ = rw (eqb-true c OUT-OF-SERVICE e₂) (out-ok x A k)
       by false false true s t e₁ e₂ e₃ e₄ e₅ = rw (eqb-true c ESTABLISH-response e₃) (up-ok x A k)

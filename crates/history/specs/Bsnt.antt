@@ -27,7 +27,7 @@ dataAccepted m = event DATA-indication m
 
 abbrev pub numberOf : Mark → Num
 numberOf (accepted code param n holds) = n
-numberOf (emitted code holds) = link.none
+numberOf (emitted code param holds) = link.none
 
 -- "A connection comes up", as in demand 3.
 abbrev pub newConnection : Mark → Bool

@@ -15,16 +15,16 @@ use Rattle.link.specs.declared.Num.{Num}
 use Rattle.event.specs.Frame.{linkAt, codeAt, paramAt, numberAt, messageOf}
 use Rattle.history.specs.Calls.{Seen, World}
 
--- An event that was accepted or a signal that was emitted, as its octets say: code, an event's parameter and number, and what its message is by clause 10.
+-- An event that was accepted or a signal that was emitted, as its octets say: code and parameter, an event's number, and what its message is by clause 10.
 pub data Mark : Type 0 where
   accepted : (code param : ℕ) → Num → Arrived → Mark
-  emitted : (code : ℕ) → Arrived → Mark
+  emitted : (code param : ℕ) → Arrived → Mark
 
 abbrev pub eventMark : List ℕ → Mark
 eventMark e = accepted (codeAt e) (paramAt e) (numberAt e) (arrived (messageOf e))
 
 abbrev pub signalMark : List ℕ → Mark
-signalMark r = emitted (codeAt r) (arrived (messageOf r))
+signalMark r = emitted (codeAt r) (paramAt r) (arrived (messageOf r))
 
 -- A history begins with its latest mark. Signals are added in the order in which they came out.
 abbrev pub with-signals : List (List ℕ) → List Mark → List Mark
@@ -43,11 +43,11 @@ history w link = marks (w .seen) link
 
 abbrev pub event : ℕ → Mark → Bool
 event c (accepted code param n holds) = eqb code c
-event c (emitted code holds) = false
+event c (emitted code param holds) = false
 
 abbrev pub signal : ℕ → Mark → Bool
 signal c (accepted code param n holds) = false
-signal c (emitted code holds) = eqb code c
+signal c (emitted code param holds) = eqb code c
 
 abbrev pub isNM : Arrived → Bool
 isNM Arrived.NM = true
@@ -65,7 +65,7 @@ isINS Arrived.Long = false
 
 abbrev pub holding : (Arrived → Bool) → Mark → Bool
 holding p (accepted code param n holds) = p holds
-holding p (emitted code holds) = p holds
+holding p (emitted code param holds) = p holds
 
 -- "Came up": ESTABLISH-confirm is accepted or ESTABLISH-response is sent.
 abbrev pub comesUp : Mark → Bool
@@ -145,7 +145,7 @@ ups (m ∷ h) = cond (event EMERGENCY m) Ups.Emergency (cond (event EMERGENCY-CE
 abbrev pub field : List Mark → ℕ
 field [] = 0
 field (accepted code param n holds ∷ h) = param
-field (emitted code holds ∷ h) = field h
+field (emitted code param holds ∷ h) = field h
 
 -- "The number of proving units that Table 7 decided for that connection", where it comes up with the latest mark.
 abbrev pub decided : ℕ → List Mark → ℕ

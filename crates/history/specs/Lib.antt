@@ -5,6 +5,8 @@ pub mod Demand
 pub mod Register
 pub mod Pics
 pub mod Bsnt
+pub mod Congestion
 pub mod Tests
 pub mod Witness
 pub mod BsntWitness
+pub mod CongestionWitness

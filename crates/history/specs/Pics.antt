@@ -59,6 +59,11 @@ Leads w k (x ∷ turns) s = (o : List ℕ) → outputOctets ≤ length o → Hap
 abbrev pub Brings : State → (World → ℕ → List Turn) → State → Type 0
 Brings s turns s′ = AfterEachCall (λ w k. linkIn w k .state ≡ s → Leads w k (turns w k) s′)
 
+-- Where a link is in a state and is not congested, turns lead it to another. For what brings a connection up: a congested link gives that up in the same call
+-- (2026-07, for Note 7 of Table 6).
+abbrev pub BringsFree : State → (World → ℕ → List Turn) → State → Type 0
+BringsFree s turns s′ = AfterEachCall (λ w k. linkIn w k .state ≡ s → linkIn w k .congested ≡ false → Leads w k (turns w k) s′)
+
 -- EVENTS for link k
 abbrev pub plain : ℕ → ℕ → List ℕ
 plain c k = written EV k c 0 none []
@@ -135,11 +140,11 @@ later d n k = units d k ++ readies k ∷ joins n k ∷ []
 abbrev pub sooner : ℕ → ℕ → Num → ℕ → List Turn
 sooner a b n k = units a k ++ (notes n k ∷ units b k ++ completes k ∷ [])
 
--- Where a link is in a state and LPO is 0: after these turns, and as many units as Table 7 decides, it comes into service either way. n1 is that of the
--- fresh table.
+-- Where a link is in a state, is not congested and LPO is 0: after these turns, and as many units as Table 7 decides, it comes into service either way. n1 is
+-- that of the fresh table.
 abbrev pub Serves : State → Ups → (World → ℕ → List Turn) → Type 0
 Serves s peer turns =
-    AfterEachCall (λ w k. linkIn w k .state ≡ s → linkIn w k .lpo ≡ false →
+    AfterEachCall (λ w k. linkIn w k .state ≡ s → linkIn w k .congested ≡ false → linkIn w k .lpo ≡ false →
     (n : Num) (a b : ℕ) → a + b ≡ table7 (linkIn w k .mps) (linkIn w k .ups) peer (w .n1) →
     Leads w k (turns w k ++ later (a + b) n k) 3/10/5 × Leads w k (turns w k ++ sooner a b n k) 3/10/5)
 
@@ -165,7 +170,7 @@ pub record SNPC1 : Type 0 where
 
 -- SNPC2. The connection that the peer asks for is accepted.
 abbrev pub SNPC2 : Type 0
-SNPC2 = (peer : Ups) → Brings 2/1/2 (λ w k. answers peer w k ∷ []) 2/10/3
+SNPC2 = (peer : Ups) → BringsFree 2/1/2 (λ w k. answers peer w k ∷ []) 2/10/3
 
 -- SNPC3. In service, the far user releases the connection, or SSCOP does.
 pub record SNPC3 : Type 0 where

@@ -18,7 +18,7 @@ use Rattle.history.specs.History.{Mark, history}
 use Rattle.history.specs.Pics.{Source, sourced}
 use Rattle.history.specs.Tests.{stands, alive, sent, due, toldIns, heardIns}
 
--- EVENTS, all for link 1 of a table of two links with n1 = 2, each with room for 4,192 octets
+-- EVENTS, all for link 1 of a table of two links with n1 = 2, each with room for 4,240 octets
 
 abbrev pub room : List ℕ
 room = replicate outputOctets 0
@@ -63,7 +63,7 @@ DATA s = step (written EV 1 event.DATA-indication 0 none (unitOf s)) room
 -- connection, the number of units sent on it, the INS unit after them, the peer's INS unit.
 
 abbrev pub after : List Call → World
-after calls = run (made (replicate 32 0) 2) calls
+after calls = run (made (replicate 40 0) 2) calls
 
 abbrev pub conditions : List Mark → List Bool
 conditions h = alive h ∷ eqb (sent h) (due 2 h) ∷ toldIns 2 h ∷ heardIns h ∷ []
@@ -100,7 +100,7 @@ abbrev pub proved : List Call
 proved = START ∷ ESTABLISH-confirm Status.NM ∷ T3 ∷ T3 ∷ DATA Status.INS ∷ T3 ∷ []
 
 pub record Witness : Type 0 where
-  pub begins : freshCall (replicate 32 0) 2 .answer .refusal ≡ 0
+  pub begins : freshCall (replicate 40 0) 2 .answer .refusal ≡ 0
   -- IN SERVICE, with proving and without: forced by management, or by the user's wish, where the peer calls
   pub with-proving : In proved
   pub without : In (FORCE-EMERGENCY ∷ START ∷ ESTABLISH-confirm Status.NM ∷ T3 ∷ DATA Status.INS ∷ [])
@@ -122,7 +122,7 @@ pub record Witness : Type 0 where
       Out (START ∷ ESTABLISH-confirm Status.NM ∷ DATA Status.INS ∷ RELEASE-indication Source.User ∷ T1 ∷ ESTABLISH-confirm Status.NM ∷ T3 ∷ T3 ∷ T3 ∷ []) (true ∷ true ∷ true ∷ false ∷ [])
   -- A refused call counts as nothing, a table made anew begins a new history, and what comes to link 1 does not come to link 0.
   pub refused : history (after (START ∷ START ∷ [])) 1 ≡ history (after (START ∷ [])) 1
-  pub anew : history (after (proved ++ fresh (replicate 16 0) 3 ∷ [])) 1 ≡ []
+  pub anew : history (after (proved ++ fresh (replicate 20 0) 3 ∷ [])) 1 ≡ []
   pub of-another : history (after proved) 0 ≡ []
   -- A burst counts as its single calls: all six events take the link into service, past a seventh that is refused too, and before a broken frame what was done stands.
   pub as-burst : InBurst proved [] 6 true (true ∷ true ∷ true ∷ true ∷ [])
