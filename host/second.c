@@ -9,12 +9,16 @@
 #include <stdbool.h>
 #include <string.h>
 
-enum { RECORD = 16, HEADER = 12, LONGEST_TABLE = 4096, LONGEST_MESSAGE = 4096, ROOM = 8 * 12 + 4096 };
+enum { RECORD = 20, HEADER = 12, LONGEST_TABLE = 5120, LONGEST_MESSAGE = 4096, ROOM = 12 * 12 + 4096 };
 
 enum { UNIT = 4, SHORTEST_USER_MESSAGE = 5 };
 
+/* The marks as numbers, so that each is read at one test. */
+enum { LINK_MARK = 'L' << 8 | 'N', EVENT_MARK = 'E' << 8 | 'V' };
+
 /* Where the fields of a link's record stand, and those of an event or a signal. */
-enum { STATE = 2, FLAGS = 3, MPS = 4, UPS = 5, TIMERS = 6, KNOWN = 7, BSNT = 8, SPARE = 11, C1 = 12, N1 = 14 };
+enum { STATE = 2, FLAGS = 3, MPS = 4, UPS = 5, TIMERS = 6, KNOWN = 7, BSNT = 8, SPARE = 11, C1 = 12, N1 = 14,
+       CONGESTED = 16, LAST_FIELD = 17 };
 enum { LINK = 2, CODE = 4, PARAMETER = 5, NUMBER = 6, ZERO = 9, LENGTH = 10, MESSAGE = HEADER };
 
 /* The states in the order of their codes, by their names in Table 6: upper, lower, management. */
@@ -27,6 +31,10 @@ enum { UPS_NORMAL, UPS_EMERGENCY };
 
 /* Clause 10's status codes: what a unit says, and what the field of a connection signal says. */
 enum { OOS = 1, PO = 2, INS = 3, NM = 4, EM = 5, ANS = 7, MI = 8, PE = 9, PNS = 10 };
+
+/* Those and the 0 of no field, as a set of bits. */
+enum { FIELDS = 1 << 0 | 1 << OOS | 1 << PO | 1 << INS | 1 << NM | 1 << EM | 1 << ANS | 1 << MI | 1 << PE
+              | 1 << PNS };
 
 enum { MESSAGE_FOR_TRANSMISSION = 1, EMERGENCY, EMERGENCY_CEASES, STOP, START, RETRIEVE_BSNT,
        RETRIEVAL_REQUEST_AND_FSNC, FLUSH_BUFFERS, CONTINUE };
@@ -64,6 +72,11 @@ static uint32_t two(const uint8_t *at)
 static uint32_t three(const uint8_t *at)
 {
     return (uint32_t)at[0] << 16 | (uint32_t)at[1] << 8 | at[2];
+}
+
+static uint32_t four(const uint8_t *at)
+{
+    return (uint32_t)at[0] << 24 | (uint32_t)at[1] << 16 | (uint32_t)at[2] << 8 | at[3];
 }
 
 /* Signals. */
@@ -108,8 +121,10 @@ static void send_unit(struct step *s, unsigned status)
     s->end += UNIT;
 }
 
+/* The only place that sends one, so the record's last field is that of every release. */
 static void release(struct step *s, unsigned status)
 {
+    s->link[LAST_FIELD] = (uint8_t)status;
     put(s, RELEASE_REQUEST, status, 0, 0);
 }
 
@@ -286,6 +301,27 @@ static bool names_a_proving_mode(const struct step *s)
     return s->event[PARAMETER] == NM || s->event[PARAMETER] == EM;
 }
 
+/* A cell of management's row below, here since the cells that enter 2/10/3 go on with it. */
+static bool congestion_while_proving(struct step *s)
+{
+    release(s, PNS);
+    report(s, LR, 0, FOR_CD);
+    emit(s, STOP_PROVING);
+    reset(s, T3);
+    return go(s, S_2_4_2);
+}
+
+/*
+ * How the only two cells end that enter 2/10/3 from another state. By Note 7 of Table 6 it is not
+ * entered while congestion lasts: then 2026-07 has the cell of congestion in 2/10/3 follow at once,
+ * on what the first cell left and behind all its signals, its timer orders among them. A record that
+ * is congested in 2/10/3 already was made by hand, and stays there.
+ */
+static bool enter_proving(struct step *s)
+{
+    return s->link[CONGESTED] ? congestion_while_proving(s) : go(s, S_2_10_3);
+}
+
 static bool establish_indication(struct step *s)
 {
     switch (s->link[STATE]) {
@@ -304,7 +340,7 @@ static bool establish_indication(struct step *s)
         connection_up(s);
         reset(s, T1);
         set(s, T3);
-        return go(s, S_2_10_3);
+        return enter_proving(s);
     default:
         return illegal;
     }
@@ -323,7 +359,7 @@ static bool establish_confirm(struct step *s)
     }
     emit(s, START_PROVING);
     set(s, T3);
-    return go(s, S_2_10_3);
+    return enter_proving(s);
 }
 
 /* The far user's release hands its field on to management; that of SSCOP itself is discarded. */
@@ -579,8 +615,10 @@ static bool force(struct step *s, unsigned mps)
     return stay();
 }
 
+/* Legal in every state, so each one sets the flag, whatever its level; 40 clears it where it is legal. */
 static bool congestion(struct step *s)
 {
+    s->link[CONGESTED] = 1;
     switch (s->link[STATE]) {
     case S_3_10_5:
     case S_2_10_4:
@@ -588,18 +626,17 @@ static bool congestion(struct step *s)
         report(s, 0, 0, FOR_CD);
         return stay();
     case S_2_10_3:
-        release(s, PNS);
-        report(s, LR, 0, FOR_CD);
-        emit(s, STOP_PROVING);
-        reset(s, T3);
-        return go(s, S_2_4_2);
-    default: /* implementation dependent */
+        return congestion_while_proving(s);
+    default: /* implementation dependent: the flag is all of it */
         return stay();
     }
 }
 
 static bool congestion_ceased(struct step *s)
 {
+    if (s->link[STATE] == S_2_10_3)
+        return illegal;
+    s->link[CONGESTED] = 0;
     switch (s->link[STATE]) {
     case S_2_4_2:
         report(s, 0, 0, FOR_CC);
@@ -609,9 +646,7 @@ static bool congestion_ceased(struct step *s)
         emit(s, TO_USER_CEASED);
         report(s, 0, 0, FOR_CC);
         return stay();
-    case S_2_10_3:
-        return illegal;
-    default: /* implementation dependent */
+    default: /* implementation dependent: the flag is all of it */
         return stay();
     }
 }
@@ -748,12 +783,12 @@ static bool take(struct step *s)
 
 static bool bad_table(size_t octets)
 {
-    return octets == 0 || octets % RECORD != 0 || octets > LONGEST_TABLE;
+    return octets == 0 || octets > LONGEST_TABLE || octets % RECORD != 0;
 }
 
 static bool bad_frame(const uint8_t *event, size_t octets)
 {
-    return octets < HEADER || event[0] != 'E' || event[1] != 'V' || event[ZERO] != 0
+    return octets < HEADER || two(event) != EVENT_MARK || event[ZERO] != 0
         || octets > HEADER + LONGEST_MESSAGE || two(event + LENGTH) != octets - HEADER;
 }
 
@@ -840,9 +875,18 @@ static struct fault bad_fields(const uint8_t *event, uint32_t length)
     }
 }
 
+/*
+ * The octets that 2026-07 adds. All at one test, which leaves congested 0 or 1, the last field below
+ * 16 and two zeros; then the field, for which the set is so wide enough.
+ */
+static bool bad_end(const uint8_t *link)
+{
+    return (four(link + CONGESTED) & 0xfef0ffff) != 0 || !(FIELDS >> link[LAST_FIELD] & 1);
+}
+
 static bool bad_record(const uint8_t *link)
 {
-    return link[0] != 'L' || link[1] != 'K'
+    return two(link) != LINK_MARK
         || link[STATE] < S_1_1_1 || link[STATE] > S_3_10_5
         || link[FLAGS] > (INS_FLAG | LPO)
         || link[MPS] > MPS_EMERGENCY
@@ -851,7 +895,8 @@ static bool bad_record(const uint8_t *link)
         || link[KNOWN] > 1
         || (link[KNOWN] == 0 && three(link + BSNT) != 0)
         || link[SPARE] != 0
-        || two(link + N1) == 0;
+        || two(link + N1) == 0
+        || bad_end(link);
 }
 
 static bool not_running(const uint8_t *link, unsigned code)
@@ -894,13 +939,16 @@ static struct second_answer step_sound_frame(uint8_t *table, size_t table_octets
     struct step s = { table, event, out, (uint32_t)event_octets - HEADER, 0 };
     struct second_answer answer = { 0, 0, 0, 0 };
     struct fault fault;
+    uint32_t at;
 
     fault = bad_fields(event, s.length);
     if (fault.refusal != 0)
         return refuse_at(fault.refusal, fault.place);
-    if (two(event + LINK) >= table_octets / RECORD)
+    /* The table is whole records, so the link is in it if its first octet is: no division. */
+    at = RECORD * two(event + LINK);
+    if (at >= table_octets)
         return refuse(5);
-    s.link += RECORD * two(event + LINK);
+    s.link += at;
     if (bad_record(s.link))
         return refuse(6);
     if (not_running(s.link, event[CODE]))
@@ -1022,7 +1070,7 @@ struct second_fresh_answer second_fresh(uint8_t *table, size_t table_octets, uin
 
         memset(link, 0, RECORD);
         link[0] = 'L';
-        link[1] = 'K';
+        link[1] = 'N';
         link[STATE] = S_1_1_1;
         link[N1] = (uint8_t)(n1 >> 8);
         link[N1 + 1] = (uint8_t)n1;

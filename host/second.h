@@ -22,10 +22,17 @@ struct second_fresh_answer {
     uint32_t refusal, place;
 };
 
-/* Makes every link of the table anew with n1; refuses by 1 or 11 and leaves the table alone. */
+/*
+ * Makes every link of the table anew with n1, not congested and without a last release field;
+ * refuses by 1 or 11 and leaves the table alone. A table is 1 to 256 records of 20 octets.
+ */
 struct second_fresh_answer second_fresh(uint8_t *table, size_t table_octets, uint16_t n1);
 
-/* Takes one event for one link. The buffers are valid for their lengths and do not overlap. */
+/*
+ * Takes one event for one link, and needs 4,240 octets of output. On a congested link an event that
+ * would enter proving goes on at once with what congestion does there. The buffers are valid for
+ * their lengths and do not overlap.
+ */
 struct second_answer second_step(uint8_t *table, size_t table_octets,
                                  const uint8_t *event, size_t event_octets,
                                  uint8_t *out, size_t out_octets);
