@@ -50,7 +50,7 @@ enum { ALONE = 1, MIXED = 2, BOTH = ALONE | MIXED };
 struct bench_case {
     const char *title;
     uint8_t rows;
-    uint8_t state, flags, timers;
+    uint8_t state, flags, congested, timers;
     uint16_t c1;
     uint8_t code, parameter;
     uint32_t number;
@@ -63,42 +63,45 @@ enum { NO_EVENT = 10 }; /* a code that is none of SSCF_EVENT_... */
 
 static const struct bench_case cases[] = {
     {"T3 expiry while proving", BOTH,
-     SSCF_STATE_2_10_3, 0, PROVING, 500, SSCF_EVENT_T3_EXPIRED, 0, 0, 0, SSCF_ACCEPTED, 0, 2},
+     SSCF_STATE_2_10_3, 0, 0, PROVING, 500, SSCF_EVENT_T3_EXPIRED, 0, 0, 0, SSCF_ACCEPTED, 0, 2},
     {"T3 expiry that ends it, in service at once", ALONE,
-     SSCF_STATE_2_10_3, SSCF_FLAG_INS, PROVING, 0, SSCF_EVENT_T3_EXPIRED, 0, 0, 0,
+     SSCF_STATE_2_10_3, SSCF_FLAG_INS, 0, PROVING, 0, SSCF_EVENT_T3_EXPIRED, 0, 0, 0,
      SSCF_ACCEPTED, 0, 5},
     {"DATA of 273 octets in service", BOTH,
-     SSCF_STATE_3_10_5, 0, 0, 0, SSCF_EVENT_DATA, 0, 0, 273, SSCF_ACCEPTED, 0, 1},
+     SSCF_STATE_3_10_5, 0, 0, 0, 0, SSCF_EVENT_DATA, 0, 0, 273, SSCF_ACCEPTED, 0, 1},
     {"DATA of 4,096 octets in service", ALONE,
-     SSCF_STATE_3_10_5, 0, 0, 0, SSCF_EVENT_DATA, 0, 0, 4096, SSCF_ACCEPTED, 0, 1},
+     SSCF_STATE_3_10_5, 0, 0, 0, 0, SSCF_EVENT_DATA, 0, 0, 4096, SSCF_ACCEPTED, 0, 1},
     {"user message of 273 octets in service", BOTH,
-     SSCF_STATE_3_10_5, 0, 0, 0, SSCF_EVENT_MESSAGE_FOR_TRANSMISSION, 0, 0, 273,
+     SSCF_STATE_3_10_5, 0, 0, 0, 0, SSCF_EVENT_MESSAGE_FOR_TRANSMISSION, 0, 0, 273,
      SSCF_ACCEPTED, 0, 2},
     {"ESTABLISH-indication with NM in 2/1/2", BOTH,
-     SSCF_STATE_2_1_2, 0, ALIGNING, 0, SSCF_EVENT_ESTABLISH_INDICATION, SSCF_STATUS_NM, 0, 0,
+     SSCF_STATE_2_1_2, 0, 0, ALIGNING, 0, SSCF_EVENT_ESTABLISH_INDICATION, SSCF_STATUS_NM, 0, 0,
      SSCF_ACCEPTED, 0, 4},
+    {"ESTABLISH-indication with NM in 2/1/2, congested", ALONE, /* two cells */
+     SSCF_STATE_2_1_2, 0, 1, ALIGNING, 0, SSCF_EVENT_ESTABLISH_INDICATION, SSCF_STATUS_NM, 0, 0,
+     SSCF_ACCEPTED, 0, 8},
     {"EMERGENCY in 1/1/1", BOTH,
-     SSCF_STATE_1_1_1, 0, 0, 0, SSCF_EVENT_EMERGENCY, 0, 0, 0, SSCF_ACCEPTED, 0, 0},
+     SSCF_STATE_1_1_1, 0, 0, 0, 0, SSCF_EVENT_EMERGENCY, 0, 0, 0, SSCF_ACCEPTED, 0, 0},
     {"an unknown code, refused by 3", ALONE,
-     SSCF_STATE_3_10_5, 0, 0, 0, NO_EVENT, 0, 0, 0, SSCF_REFUSED_CODE, 0, 0},
+     SSCF_STATE_3_10_5, 0, 0, 0, 0, NO_EVENT, 0, 0, 0, SSCF_REFUSED_CODE, 0, 0},
     {"START with a parameter, refused by 10", ALONE,
-     SSCF_STATE_3_10_5, 0, 0, 0, SSCF_EVENT_START, 1, 0, 0,
+     SSCF_STATE_3_10_5, 0, 0, 0, 0, SSCF_EVENT_START, 1, 0, 0,
      SSCF_REFUSED_NOT_CARRIED, SSCF_PLACE_PARAMETER, 0},
     {"RELEASE-indication with source 2, refused by 11", ALONE,
-     SSCF_STATE_3_10_5, 0, 0, 0, SSCF_EVENT_RELEASE_INDICATION, SSCF_STATUS_OOS, 2, 0,
+     SSCF_STATE_3_10_5, 0, 0, 0, 0, SSCF_EVENT_RELEASE_INDICATION, SSCF_STATUS_OOS, 2, 0,
      SSCF_REFUSED_RANGE, SSCF_PLACE_NUMBER, 0},
     {"user message of 4 octets, refused by 12", ALONE,
-     SSCF_STATE_3_10_5, 0, 0, 0, SSCF_EVENT_MESSAGE_FOR_TRANSMISSION, 0, 0, 4,
+     SSCF_STATE_3_10_5, 0, 0, 0, 0, SSCF_EVENT_MESSAGE_FOR_TRANSMISSION, 0, 0, 4,
      SSCF_REFUSED_SHORT, SSCF_PLACE_LENGTH, 0},
     {"START in service, refused by 8", ALONE,
-     SSCF_STATE_3_10_5, 0, 0, 0, SSCF_EVENT_START, 0, 0, 0, SSCF_REFUSED_STATE, 0, 0},
+     SSCF_STATE_3_10_5, 0, 0, 0, 0, SSCF_EVENT_START, 0, 0, 0, SSCF_REFUSED_STATE, 0, 0},
     {"NM unit while proving", MIXED,
-     SSCF_STATE_2_10_3, 0, PROVING, 500, SSCF_EVENT_DATA, 0, 0, SSCF_UNIT_OCTETS,
+     SSCF_STATE_2_10_3, 0, 0, PROVING, 500, SSCF_EVENT_DATA, 0, 0, SSCF_UNIT_OCTETS,
      SSCF_ACCEPTED, 0, 0},
     {"CONGESTION in service", MIXED,
-     SSCF_STATE_3_10_5, 0, 0, 0, SSCF_EVENT_CONGESTION, 1, 0, 0, SSCF_ACCEPTED, 0, 2},
+     SSCF_STATE_3_10_5, 0, 0, 0, 0, SSCF_EVENT_CONGESTION, 1, 0, 0, SSCF_ACCEPTED, 0, 2},
     {"RELEASE-indication in service", MIXED,
-     SSCF_STATE_3_10_5, 0, 0, 0, SSCF_EVENT_RELEASE_INDICATION, SSCF_STATUS_OOS, 0, 0,
+     SSCF_STATE_3_10_5, 0, 0, 0, 0, SSCF_EVENT_RELEASE_INDICATION, SSCF_STATUS_OOS, 0, 0,
      SSCF_ACCEPTED, 0, 2},
 };
 
@@ -268,6 +271,7 @@ static void set_up_kind(struct kind *kind, const struct bench_case *c)
     memcpy(kind->start, table, sizeof kind->start);
     kind->start[SSCF_LINK_AT_STATE] = c->state;
     kind->start[SSCF_LINK_AT_FLAGS] = c->flags;
+    kind->start[SSCF_LINK_AT_CONGESTED] = c->congested;
     kind->start[SSCF_LINK_AT_TIMERS] = c->timers;
     sscf_put_16(kind->start + SSCF_LINK_AT_C1, c->c1);
 

@@ -1,9 +1,10 @@
 /*
  * Runs the library and the second machine side by side on equal buffers and holds their answers,
  * and every octet around them, against each other: each cell of Table 6 with each record, each
- * check alone and with the others, each code with all that its fields can hold, long random
- * histories, and bursts of events, these also against the library's own single calls. Some cases
- * are held against the papers too. It ends at the first difference.
+ * check alone and with the others, each code with all that its fields can hold, congested links on
+ * both ways into proving, long random histories, and bursts of events, these also against the
+ * library's own single calls. Some cases are held against the papers too. It ends at the first
+ * difference.
  *
  *     compare [SEED [CALLS [BURSTS]]]     of the random histories
  */
@@ -17,7 +18,7 @@
 #include <string.h>
 
 enum { RECORD = SSCF_LINK_OCTETS, HEAD = SSCF_HEAD_OCTETS, UNIT = SSCF_UNIT_OCTETS };
-enum { ROOM = SSCF_OUTPUT_OCTETS, LONGEST = 4096 }; /* the longest table and the longest message are of one length */
+enum { ROOM = SSCF_OUTPUT_OCTETS, LONGEST = SSCF_MESSAGE_OCTETS_MAX, LONGEST_TABLE = SSCF_TABLE_OCTETS_MAX };
 
 enum { ALL_TIMERS = SSCF_TIMER_T1 | SSCF_TIMER_T2 | SSCF_TIMER_T3 };
 
@@ -39,6 +40,7 @@ static struct call call;
 static unsigned long calls, into_service, out_of_service;
 static unsigned long forgotten[3]; /* a known BSNT: by ESTABLISH_CONFIRM, by ESTABLISH_INDICATION, by anything else */
 static unsigned long retrieved[2]; /* RETRIEVE_BSNT answered, without a number and with one */
+static uint32_t most_signals; /* of one step */
 static unsigned long step_refusals[NUMBERS], fresh_refusals[NUMBERS];
 
 /* The fields that a refusal can name: of a step the first six, of a fresh table the last. */
@@ -144,7 +146,7 @@ static void print_case(const struct call *c)
     printf("%02x%02x\n", (unsigned)(links >> 8 & 255), (unsigned)(links & 255));
     print_hex(c->table, c->table_octets);
     print_hex(c->event, c->event_octets);
-    if (links == 0 || c->table_octets > LONGEST || c->table_octets % RECORD != 0
+    if (links == 0 || c->table_octets > LONGEST_TABLE || c->table_octets % RECORD != 0
         || c->out_octets < ROOM)
         printf("(it gives the step its own lengths: a wrong one of table or output it cannot"
                " show)\n");
@@ -207,13 +209,84 @@ static void count_bsnt(unsigned code, const uint8_t *before, const uint8_t *afte
         retrieved[library.out[SSCF_HEAD_AT_CODE] == SSCF_SIGNAL_BSNT]++;
 }
 
+/*
+ * Request 2026-07. The two ways into 2/10/3 from another state; on a congested link both go on to
+ * 2/4/2 in the same step. Counted by MPS, UPS and the peer's field, since each decides the units.
+ */
+enum { BY_INDICATION, BY_CONFIRM, WAYS_IN };
+enum { MODES = 3 * 2 * 2 };
+static unsigned long two_cells[WAYS_IN][MODES];
+
+static void count_two_cells(const uint8_t *event, const uint8_t *before, const uint8_t *after)
+{
+    unsigned code = event[SSCF_HEAD_AT_CODE], field = event[SSCF_HEAD_AT_PARAMETER];
+    unsigned mode = (2 * before[SSCF_LINK_AT_MPS] + before[SSCF_LINK_AT_UPS]) * 2 + (field == SSCF_STATUS_EM);
+
+    if (before[SSCF_LINK_AT_CONGESTED] == 0 || after[SSCF_LINK_AT_STATE] != SSCF_STATE_2_4_2
+        || (field != SSCF_STATUS_NM && field != SSCF_STATUS_EM))
+        return;
+    if (code == SSCF_EVENT_ESTABLISH_INDICATION)
+        two_cells[BY_INDICATION][mode]++;
+    if (code == SSCF_EVENT_ESTABLISH_CONFIRM)
+        two_cells[BY_CONFIRM][mode]++;
+}
+
+/* CONGESTION and its end that were accepted, by the flag before and the state; releases by field. */
+static unsigned long flagged[2][2][8];
+static unsigned long released[SSCF_STATUS_PNS + 1];
+
+static void count_flag(unsigned code, const uint8_t *before)
+{
+    unsigned congested = before[SSCF_LINK_AT_CONGESTED], state = before[SSCF_LINK_AT_STATE];
+
+    if (code == SSCF_EVENT_CONGESTION || code == SSCF_EVENT_CONGESTION_CEASED)
+        flagged[code == SSCF_EVENT_CONGESTION_CEASED][congested][state - 1]++;
+}
+
+/* The field of the last RELEASE_REQUEST in these octets, or the one before. */
+static unsigned last_field(const uint8_t *out, size_t octets, unsigned field)
+{
+    const uint8_t *signal;
+
+    for (signal = sscf_first_record(out, octets); signal != NULL; signal = sscf_next_record(out, octets, signal)) {
+        if (signal[SSCF_HEAD_AT_CODE] != SSCF_SIGNAL_RELEASE_REQUEST)
+            continue;
+        field = signal[SSCF_HEAD_AT_PARAMETER];
+        released[field <= SSCF_STATUS_PNS ? field : 0]++;
+    }
+    return field;
+}
+
+/*
+ * What the papers say of the last octets of a record, whatever the cell: an accepted 39 sets the
+ * flag and an accepted 40 clears it, the last field is that of the last release, and two are zeros.
+ */
+static int end_as_due(unsigned code, const uint8_t *before, const uint8_t *after, const uint8_t *out, size_t octets)
+{
+    unsigned congested = code == 39 ? 1 : code == 40 ? 0 : before[16];
+
+    return after[16] == congested && after[17] == last_field(out, octets, before[17])
+        && after[18] == 0 && after[19] == 0;
+}
+
 /* What an accepted step did to its link. */
-static void count(const struct call *c)
+static void count(const struct call *c, struct sscf_answer answer)
 {
     size_t at = RECORD * (size_t)sscf_get_16(c->event + SSCF_HEAD_AT_LINK);
+    const uint8_t *before = c->table + at, *after = library.table + at;
+    unsigned code = c->event[SSCF_HEAD_AT_CODE];
 
-    count_service(c->table + at, library.table + at);
-    count_bsnt(c->event[SSCF_HEAD_AT_CODE], c->table + at, library.table + at);
+    count_service(before, after);
+    count_bsnt(code, before, after);
+    count_two_cells(c->event, before, after);
+    count_flag(code, before);
+    if (answer.signals > most_signals)
+        most_signals = answer.signals;
+    if (end_as_due(code, before, after, library.out, answer.octets))
+        return;
+    printf("compare: in call %lu both have octets 16 to 19 of the record otherwise than is due\n", calls);
+    print_case(c);
+    exit(1);
 }
 
 static struct sscf_answer step(struct call *c)
@@ -233,7 +306,7 @@ static struct sscf_answer step(struct call *c)
     count_refusal(step_refusals, a.refusal);
     count_field(0, STEP_FIELDS, a.refusal, a.place);
     if (a.refusal == SSCF_ACCEPTED)
-        count(c);
+        count(c, a);
     memcpy(c->table, library.table, c->table_octets);
     return a;
 }
@@ -375,7 +448,7 @@ static uint8_t *record_of(struct call *c, unsigned link)
 static void make_record(uint8_t *record, unsigned state, unsigned timers, unsigned c1, unsigned n1)
 {
     memset(record, 0, RECORD);
-    memcpy(record + SSCF_LINK_AT_MARK, "LK", 2);
+    memcpy(record + SSCF_LINK_AT_MARK, "LN", 2);
     record[SSCF_LINK_AT_STATE] = (uint8_t)state;
     record[SSCF_LINK_AT_TIMERS] = (uint8_t)timers;
     sscf_put_16(record + SSCF_LINK_AT_C1, c1);
@@ -386,6 +459,17 @@ static void know_bsnt(uint8_t *record, uint32_t bsnt)
 {
     record[SSCF_LINK_AT_BSNT_KNOWN] = 1;
     sscf_put_24(record + SSCF_LINK_AT_BSNT, bsnt);
+}
+
+/* Congested or not, and no field or one of the nine, whichever was sent. */
+static void any_end(uint8_t *record)
+{
+    static const uint8_t fields_sent[] = { 0, SSCF_STATUS_OOS, SSCF_STATUS_PO, SSCF_STATUS_INS, SSCF_STATUS_NM,
+                                           SSCF_STATUS_EM, SSCF_STATUS_ANS, SSCF_STATUS_MI, SSCF_STATUS_PE,
+                                           SSCF_STATUS_PNS };
+
+    record[SSCF_LINK_AT_CONGESTED] = (uint8_t)below(2);
+    record[SSCF_LINK_AT_LAST_FIELD] = fields_sent[below(sizeof fields_sent)];
 }
 
 /* Three links, of which the two that are not meant hold anything at all: nobody may look. */
@@ -404,23 +488,41 @@ static unsigned make_table(struct call *c, const uint8_t *record)
 
 /* Part 1: every kind of event with every record. */
 
-static void try_kinds(const uint8_t *record)
+static void try_kind(const uint8_t *record, struct kind kind)
 {
-    static const size_t too_short[] = { 0, 1, 11, 12, 96, 4095, 4191 };
-    unsigned link;
+    static const size_t too_short[] = { 0, 1, 11, 12, 96, 144, 4095, 4191, 4192, 4239 };
+    unsigned link = make_table(&call, record);
+
+    make_event(&call, link, kind);
+    /* Whether the cell is legal hangs on the state alone, so few records need the short output. */
+    if (record[SSCF_LINK_AT_MPS] == 0 && record[SSCF_LINK_AT_UPS] == 0
+        && record[SSCF_LINK_AT_TIMERS] == ALL_TIMERS && record[SSCF_LINK_AT_BSNT_KNOWN] == 0) {
+        call.out_octets = too_short[below(sizeof too_short / sizeof too_short[0])];
+        step(&call);
+        call.out_octets = ROOM + below(3);
+    }
+    step(&call);
+}
+
+/* By their cells, or by request 2026-07 behind them. */
+static int asks_for_congestion(unsigned code)
+{
+    return code == SSCF_EVENT_ESTABLISH_INDICATION || code == SSCF_EVENT_ESTABLISH_CONFIRM
+        || code == SSCF_EVENT_CONGESTION || code == SSCF_EVENT_CONGESTION_CEASED;
+}
+
+/* To the other events congestion is nothing, so that one value of it is enough for each record. */
+static void try_kinds(uint8_t *record)
+{
     size_t n;
 
     for (n = 0; n < kinds_made; n++) {
-        link = make_table(&call, record);
-        make_event(&call, link, kinds[n]);
-        /* Whether the cell is legal hangs on the state alone, so few records need the short output. */
-        if (record[SSCF_LINK_AT_MPS] == 0 && record[SSCF_LINK_AT_UPS] == 0
-            && record[SSCF_LINK_AT_TIMERS] == ALL_TIMERS && record[SSCF_LINK_AT_BSNT_KNOWN] == 0) {
-            call.out_octets = too_short[below(sizeof too_short / sizeof too_short[0])];
-            step(&call);
-            call.out_octets = ROOM + below(3);
+        any_end(record);
+        try_kind(record, kinds[n]);
+        if (asks_for_congestion(kinds[n].code)) {
+            record[SSCF_LINK_AT_CONGESTED] ^= 1;
+            try_kind(record, kinds[n]);
         }
-        step(&call);
     }
 }
 
@@ -478,6 +580,7 @@ static unsigned sound(struct call *c, unsigned code)
     unsigned state = 1 + below(8), c1 = below(3), n1 = 1 + below(3), link;
 
     make_record(record, state, ALL_TIMERS, c1, n1);
+    any_end(record);
     link = make_table(c, record);
     make_event(c, link, plain(code));
     return link;
@@ -590,10 +693,11 @@ static void table_and_output_lengths(void)
 
     for (n = 0; n <= 100; n++)
         table_length(n);
-    for (n = LONGEST - 33; n <= LONGEST + 33; n++)
+    for (n = LONGEST_TABLE - 2 * RECORD - 1; n <= LONGEST_TABLE + 2 * RECORD + 1; n++)
         table_length(n);
-    table_length(0x10000);
-    table_length(0x10000 + RECORD);
+    /* Whole records by their lowest 16 bits alone, or below the limit by these alone. */
+    for (n = 0x10000; n <= 0x10000 + 3 * RECORD; n++)
+        table_length(n);
     for (n = 0; n <= 120; n++) {
         for (m = 0; m < sizeof codes; m++) {
             sound(&call, codes[m]);
@@ -660,7 +764,8 @@ static unsigned place_to_spoil(void)
 {
     static const uint8_t places[] = { SSCF_LINK_AT_MARK, SSCF_LINK_AT_MARK + 1, SSCF_LINK_AT_STATE, SSCF_LINK_AT_FLAGS,
                                       SSCF_LINK_AT_MPS, SSCF_LINK_AT_UPS, SSCF_LINK_AT_TIMERS,
-                                      SSCF_LINK_AT_BSNT_KNOWN, SSCF_LINK_AT_ZERO };
+                                      SSCF_LINK_AT_BSNT_KNOWN, SSCF_LINK_AT_ZERO, SSCF_LINK_AT_CONGESTED,
+                                      SSCF_LINK_AT_LAST_FIELD, SSCF_LINK_AT_ZEROS, SSCF_LINK_AT_ZEROS + 1 };
 
     return places[below(sizeof places)];
 }
@@ -690,7 +795,7 @@ static void spoil(struct call *c, unsigned wrong)
     for (n = 0; n < 3 && wrong & WRONG_TIMER; n++)
         record_of(c, n)[SSCF_LINK_AT_TIMERS] &= (uint8_t)~ALL_TIMERS;
     if (wrong & WRONG_TABLE)
-        c->table_octets = one_in(3) ? 0 : one_in(2) ? 3 * RECORD - 1 - below(15) : LONGEST + RECORD;
+        c->table_octets = one_in(3) ? 0 : one_in(2) ? 3 * RECORD - 1 - below(RECORD - 1) : LONGEST_TABLE + RECORD;
     if (wrong & WRONG_OUTPUT)
         c->out_octets = one_in(2) ? ROOM - 1 : below(ROOM);
 }
@@ -703,8 +808,10 @@ static void several_wrong(void)
         for (state = 1; state <= 8; state++) {
             for (n = 0; n < sizeof codes; n++) {
                 sound(&call, codes[n]);
-                for (m = 0; m < 3; m++)
+                for (m = 0; m < 3; m++) {
                     make_record(record_of(&call, m), state, ALL_TIMERS, below(2), 1);
+                    any_end(record_of(&call, m));
+                }
                 spoil(&call, wrong);
                 step(&call);
             }
@@ -718,7 +825,7 @@ static void every_fresh_length(void)
     size_t octets, n;
     unsigned m;
 
-    for (octets = 0; octets <= LONGEST + 2 * RECORD; octets++) {
+    for (octets = 0; octets <= LONGEST_TABLE + 2 * RECORD; octets++) {
         for (m = 0; m < 6; m++) {
             /* A table of any octets at all is made anew; long ones only at their ends, for time. */
             for (n = 0; n < octets; n += n < 64 || n + 64 > octets ? 1 : 61)
@@ -760,6 +867,7 @@ static struct sscf_answer try_case(unsigned n, struct kind kind)
     struct sscf_answer answer;
 
     make_record(record, state, circumstance == NO_TIMER ? 0 : ALL_TIMERS, c1, 3);
+    any_end(record);
     if (circumstance == BAD_RECORD)
         record[place_to_spoil()] |= 0x80;
     link = make_table(&call, record);
@@ -914,7 +1022,89 @@ static void cases_by_name(void)
     hold_fresh("a fresh table with n1 1", 2 * RECORD, 1, 0, 0);
 }
 
-/* Part 4: histories, in which links come into service and leave. */
+/*
+ * Part 4: request 2026-07. Links congested and not into 2/10/3 by both ways, with every parameter
+ * under all that the cells ask; congestion of every level and its end in every state; and every
+ * value of each of a record's last octets, also where other things are wrong.
+ */
+
+static void try_way_in(unsigned state, unsigned code, unsigned n)
+{
+    uint8_t record[RECORD];
+    unsigned parameter, c1 = below(3), n1 = 1 + below(0xFFFF), link;
+
+    for (parameter = 0; parameter < 256; parameter++) {
+        struct kind kind = { code, parameter, 0, 0, -1 };
+
+        make_record(record, state, n % 8, c1, n1);
+        any_end(record);
+        record[SSCF_LINK_AT_FLAGS] = (uint8_t)(n / 8 % 4);
+        record[SSCF_LINK_AT_MPS] = (uint8_t)(n / 32 % 3);
+        record[SSCF_LINK_AT_UPS] = (uint8_t)(n / 96 % 2);
+        record[SSCF_LINK_AT_CONGESTED] = (uint8_t)(n / 192);
+        if (one_in(2))
+            know_bsnt(record, draw() >> 8);
+        link = make_table(&call, record);
+        make_event(&call, link, kind);
+        step(&call);
+    }
+}
+
+static void every_way_in(void)
+{
+    unsigned n;
+
+    for (n = 0; n < 8 * 4 * 3 * 2 * 2; n++) {
+        try_way_in(SSCF_STATE_2_1_2, SSCF_EVENT_ESTABLISH_INDICATION, n);
+        try_way_in(SSCF_STATE_2_2_2, SSCF_EVENT_ESTABLISH_CONFIRM, n);
+    }
+}
+
+static void every_level(void)
+{
+    unsigned n, parameter, link;
+
+    for (n = 0; n < 2 * 2 * 8; n++) {
+        for (parameter = 0; parameter < 256; parameter++) {
+            link = sound(&call, n % 2 == 0 ? SSCF_EVENT_CONGESTION : SSCF_EVENT_CONGESTION_CEASED);
+            record_of(&call, link)[SSCF_LINK_AT_CONGESTED] = (uint8_t)(n / 2 % 2);
+            record_of(&call, link)[SSCF_LINK_AT_STATE] = (uint8_t)(1 + n / 4);
+            call.event[SSCF_HEAD_AT_PARAMETER] = (uint8_t)parameter;
+            step(&call);
+        }
+    }
+}
+
+/* The refusals given to records with one of their last octets anything at all. */
+static unsigned long end_refusals[NUMBERS];
+
+static void try_last_octet(unsigned code, unsigned at, unsigned value, unsigned wrong)
+{
+    unsigned link = sound(&call, code);
+
+    record_of(&call, link)[at] = (uint8_t)value;
+    spoil(&call, wrong & ~(unsigned)WRONG_RECORD);
+    count_refusal(end_refusals, step(&call).refusal);
+}
+
+/* Values that can be right, and some that cannot, meet each other thing wrong, the rest some. */
+static void every_last_octet(void)
+{
+    unsigned n, at, value, wrong;
+
+    for (n = 0; n < sizeof codes; n++) {
+        for (at = SSCF_LINK_AT_CONGESTED; at < RECORD; at++) {
+            for (value = 0; value < 256; value++) {
+                try_last_octet(codes[n], at, value, 0);
+                for (wrong = 1; wrong < ALL_WRONG; wrong <<= 1)
+                    if (value < 16 || one_in(8))
+                        try_last_octet(codes[n], at, value, wrong);
+            }
+        }
+    }
+}
+
+/* Part 5: histories, in which links come into service and leave. */
 
 /* The event that leads a link on from its state, and now and then another that does. */
 static unsigned likely_code(unsigned state)
@@ -987,16 +1177,17 @@ static void damage_event(struct call *c)
 
 static size_t wrong_table_length(size_t octets)
 {
-    static const size_t lengths[] = { 0, 1, 15, 17, LONGEST - 1, LONGEST + 1, LONGEST + RECORD };
+    static const size_t lengths[] = { 0, 1, 16, RECORD - 1, RECORD + 1, 4096, LONGEST_TABLE - 1, LONGEST_TABLE + 1,
+                                      LONGEST_TABLE + RECORD };
 
-    return one_in(4) ? octets / 2 : one_in(3) ? octets - 1 : lengths[below(7)];
+    return one_in(4) ? octets / 2 : one_in(3) ? octets - 1 : lengths[below(9)];
 }
 
 static size_t output_length(void)
 {
-    static const size_t lengths[] = { 0, 12, 96, 4096, ROOM - 1, ROOM - 1, ROOM - 1, ROOM + 1, 8192 };
+    static const size_t lengths[] = { 0, 12, 96, 4096, 4192, ROOM - 1, ROOM - 1, ROOM - 1, ROOM + 1, 8192 };
 
-    return one_in(30) ? one_in(2) ? lengths[below(9)] : below(ROOM) : ROOM;
+    return one_in(30) ? one_in(2) ? lengths[below(10)] : below(ROOM) : ROOM;
 }
 
 /* Most histories prove briefly, or no link would come into service in the time there is. */
@@ -1014,9 +1205,16 @@ static unsigned any_link(size_t octets)
     return links > 4 && !one_in(4) ? below(4) * 85 : below(links);
 }
 
+/* Congestion comes seldom, and ends before long, or few links would come into service. */
 static void next_event(struct call *c, unsigned link)
 {
-    make_event(c, link, one_in(4) ? any() : likely(record_of(c, link)[SSCF_LINK_AT_STATE]));
+    static const struct kind ceased = { SSCF_EVENT_CONGESTION_CEASED, 0, 0, 0, -1 };
+    const uint8_t *record = record_of(c, link);
+
+    if (record[SSCF_LINK_AT_CONGESTED] == 1 && one_in(8))
+        make_event(c, link, ceased);
+    else
+        make_event(c, link, one_in(4) ? any() : likely(record[SSCF_LINK_AT_STATE]));
 }
 
 static void random_call(struct call *c, size_t octets)
@@ -1057,13 +1255,14 @@ static void histories(unsigned long count)
 }
 
 /*
- * Part 5: bursts. To the library's and the second machine's come the library's single calls, made
+ * Part 6: bursts. To the library's and the second machine's come the library's single calls, made
  * one after the other on buffers of their own: this is what a burst has to equal.
  */
 
 static struct call burst;
 static unsigned long bursts, events_taken;
 static unsigned long burst_refusals[NUMBERS], list_refusals[NUMBERS];
+static unsigned long congested_proving; /* links that are, after a burst; by Note 7 of Table 6 there are none */
 
 /* What ended the bursts, by what is asked, and by what would be asked next. */
 enum { END_ROOM, END_FULL, FRAME_ROOM, FRAME_FULL, FULL_ACCEPTED, FULL_REFUSED, ENDS };
@@ -1107,7 +1306,7 @@ static size_t sound_frames(const struct call *c)
 
 static uint32_t due_refusal(const struct call *c)
 {
-    if (c->table_octets == 0 || c->table_octets % RECORD != 0 || c->table_octets > LONGEST)
+    if (c->table_octets == 0 || c->table_octets % RECORD != 0 || c->table_octets > LONGEST_TABLE)
         return SSCF_REFUSED_TABLE;
     return c->places < sound_frames(c) ? SSCF_REFUSED_LIST : SSCF_ACCEPTED;
 }
@@ -1119,6 +1318,21 @@ static struct sscf_answer one_step(const struct call *c, const uint8_t *event, s
     struct sscf_answer one = sscf_step(single.table, c->table_octets, event, octets, out, room);
 
     count_field(0, STEP_FIELDS, one.refusal, one.place);
+    return one;
+}
+
+/* One that there is room for. A link that is not there has no record, and its event is refused. */
+static struct sscf_answer counted_step(const struct call *c, const uint8_t *event, uint8_t *out)
+{
+    size_t at = RECORD * (size_t)sscf_get_16(event + SSCF_HEAD_AT_LINK);
+    uint8_t before[RECORD] = { 0 };
+    struct sscf_answer one;
+
+    if (at < c->table_octets)
+        memcpy(before, single.table + at, RECORD);
+    one = one_step(c, event, frame_octets(event), out, ROOM);
+    if (one.refusal == SSCF_ACCEPTED)
+        count_two_cells(event, before, single.table + at);
     return one;
 }
 
@@ -1156,7 +1370,7 @@ static struct sscf_burst_answer single_calls(const struct call *c)
 
     while (answer.refusal == SSCF_ACCEPTED && goes_on(c, &answer)) {
         const uint8_t *event = single.event + answer.at;
-        struct sscf_answer one = one_step(c, event, frame_octets(event), out, ROOM);
+        struct sscf_answer one = counted_step(c, event, out);
 
         memcpy(single.out + answer.octets, out, one.octets);
         single.list[answer.taken++] = one.refusal;
@@ -1236,8 +1450,11 @@ static void count_burst(const struct call *c, struct sscf_burst_answer answer)
     events_taken += answer.taken;
     for (n = 0; n < answer.taken; n++)
         count_refusal(list_refusals, library.list[n]);
-    for (n = 0; n < c->table_octets; n += RECORD)
+    for (n = 0; n < c->table_octets; n += RECORD) {
         count_service(c->table + n, library.table + n);
+        congested_proving += library.table[n + SSCF_LINK_AT_CONGESTED] == 1
+                          && library.table[n + SSCF_LINK_AT_STATE] == SSCF_STATE_2_10_3;
+    }
 }
 
 /* No number of a list is four octets alike but 0, with which none is filled. */
@@ -1339,7 +1556,7 @@ static void break_frame(size_t frame, unsigned way)
         break;
     case MARK:
         if (one_in(2))
-            memcpy(event + SSCF_HEAD_AT_MARK, "LK", 2);
+            memcpy(event + SSCF_HEAD_AT_MARK, "LN", 2);
         else
             event[SSCF_HEAD_AT_MARK + bit / 8] ^= (uint8_t)(1 << bit % 8);
         break;
@@ -1369,12 +1586,12 @@ static void break_frames(void)
 /* Half of the outputs end by as much as a step asks for behind one of the events, or one less. */
 static size_t burst_output(void)
 {
-    static const size_t lengths[] = { 0, 1, 12, 4096, ROOM - 1, ROOM, ROOM + 1, 8192 };
+    static const size_t lengths[] = { 0, 1, 12, 4096, 4192, ROOM - 1, ROOM, ROOM + 1, 8192 };
     size_t all = plan.written[plan.made], some = plan.written[below((uint32_t)plan.made + 1)];
 
     switch (below(8)) {
     case 0:
-        return lengths[below(8)];
+        return lengths[below(9)];
     case 1:
         return below(2 * ROOM);
     case 2: case 3:
@@ -1487,6 +1704,47 @@ static void many_octets(void)
 }
 
 /*
+ * Both ways into 2/10/3 on a congested link, the second with another link's event between, and what
+ * follows when the congestion is over; with room that ends behind each of the events.
+ */
+static void congested_bursts(void)
+{
+    static const struct { unsigned link, code, parameter; } events[] = {
+        { 1, SSCF_EVENT_START, 0 },
+        { 1, SSCF_EVENT_CONGESTION, 2 },
+        { 1, SSCF_EVENT_ESTABLISH_CONFIRM, SSCF_STATUS_NM },
+        { 1, SSCF_EVENT_RELEASE_CONFIRM, 0 },
+        { 0, SSCF_EVENT_START, 0 },
+        { 1, SSCF_EVENT_ESTABLISH_INDICATION, SSCF_STATUS_EM },
+        { 0, SSCF_EVENT_ESTABLISH_CONFIRM, SSCF_STATUS_EM },
+        { 1, SSCF_EVENT_CONGESTION_CEASED, 0 },
+        { 1, SSCF_EVENT_RELEASE_CONFIRM, 0 },
+        { 1, SSCF_EVENT_ESTABLISH_INDICATION, SSCF_STATUS_NM },
+        { 1, SSCF_EVENT_CONGESTION, 0 },
+        { 1, SSCF_EVENT_T3_EXPIRED, 0 }
+    };
+    enum { EVENTS = sizeof events / sizeof events[0] };
+    size_t n;
+
+    for (n = 0; n < 2 * (EVENTS + 1); n++) {
+        size_t m;
+
+        sscf_fresh(burst.table, 2 * RECORD, 3);
+        begin_burst(2 * RECORD);
+        for (m = 0; m < EVENTS; m++) {
+            struct kind kind = { events[m].code, events[m].parameter, 0, 0, -1 };
+
+            make_event(&call, events[m].link, kind);
+            add_to_burst();
+        }
+        burst.table_octets = 2 * RECORD;
+        burst.places = EVENTS;
+        burst.out_octets = plan.written[n / 2] + ROOM - n % 2;
+        try_burst(&burst);
+    }
+}
+
+/*
  * The cases by name that are at fault, all in one burst, every second one for a link that is not
  * there: the list takes the numbers alone.
  */
@@ -1534,7 +1792,7 @@ static int never_met(void)
         [NO_LINK] = { "fields, no such link", 1 << 5 },
         [BAD_RECORD] = { "fields, bad record", 1 << 6 },
         [NO_TIMER] = { "fields, no timer running", 1 << 0 | 1 << 7 | 1 << 8 },
-        [SHORT_OUTPUT] = { "fields, output of 4,191", 1 << 8 | 1 << 9 }
+        [SHORT_OUTPUT] = { "fields, output of 4,239", 1 << 8 | 1 << 9 }
     };
     unsigned of_the_event = 1 << 3 | 1 << 10 | 1 << 11 | 1 << 12, n;
     int failed = 0;
@@ -1543,6 +1801,84 @@ static int never_met(void)
         failed |= never_seen(circumstances[n].name, met[n],
                              of_the_event | circumstances[n].wanted);
     return failed;
+}
+
+/* Both ways, each under every MPS, UPS and field of the peer, at least so often. */
+static int two_cells_missed(const char *name, unsigned long least)
+{
+    unsigned long sums[WAYS_IN] = { 0 }, fewest = ~0ul;
+    unsigned way, mode;
+
+    for (way = 0; way < WAYS_IN; way++) {
+        for (mode = 0; mode < MODES; mode++) {
+            sums[way] += two_cells[way][mode];
+            if (two_cells[way][mode] < fewest)
+                fewest = two_cells[way][mode];
+        }
+    }
+    printf("%s: two cells %lu times by an indication, %lu times by a confirm; under each MPS, UPS and field at"
+           " least %lu times\n", name, sums[BY_INDICATION], sums[BY_CONFIRM], fewest);
+    if (fewest < least)
+        printf("%s: %lu times are due\n", name, least);
+    memset(two_cells, 0, sizeof two_cells);
+    return fewest < least;
+}
+
+/* Congestion is accepted with either flag in every state, and its end in all but 2/10/3. */
+static int never_flagged(unsigned ended, unsigned congested, const char *what)
+{
+    static const char *const names[STATES] = { "1/1/1", "1/4/1", "2/1/2", "2/2/2", "2/4/2", "2/10/3", "2/10/4",
+                                               "3/10/5" };
+    const unsigned long *all = flagged[ended][congested];
+    const char *legal_names[STATES];
+    unsigned long legal[STATES];
+    unsigned state, many = 0;
+    int odd = 0;
+
+    for (state = 1; state <= STATES; state++) {
+        if (ended && state == SSCF_STATE_2_10_3) {
+            odd = all[state - 1] != 0;
+            continue;
+        }
+        legal_names[many] = names[state - 1];
+        legal[many++] = all[state - 1];
+    }
+    return never_counted("congestion", what, legal_names, legal, many) | odd;
+}
+
+/* The fields of releases, which are six of the nine status codes and no other. */
+static int never_released(void)
+{
+    static const char *const names[] = { "OOS", "PO", "ANS", "MI", "PE", "PNS" };
+    static const unsigned fields_of[] = { SSCF_STATUS_OOS, SSCF_STATUS_PO, SSCF_STATUS_ANS, SSCF_STATUS_MI,
+                                          SSCF_STATUS_PE, SSCF_STATUS_PNS };
+    unsigned long counts[6];
+    unsigned n;
+
+    for (n = 0; n < 6; n++)
+        counts[n] = released[fields_of[n]];
+    return never_counted("last field", "it was made", names, counts, 6)
+         | (released[0] + released[SSCF_STATUS_INS] + released[SSCF_STATUS_NM] + released[SSCF_STATUS_EM]
+            + released[6] != 0);
+}
+
+/* The counts of the cells are those of every_cell and of every_way_in, the least there is of both. */
+static int congestion(void)
+{
+    unsigned long before = calls;
+    int failed;
+
+    every_way_in();
+    every_level();
+    every_last_octet();
+    printf("congestion: %lu calls\n", calls - before);
+    failed = two_cells_missed("cells", 4 * 8 * 5 * 2 + 4 * 8);
+    failed |= never_flagged(0, 0, "it began");
+    failed |= never_flagged(0, 1, "it began again");
+    failed |= never_flagged(1, 1, "it ended");
+    failed |= never_flagged(1, 0, "it ended again");
+    failed |= never_released();
+    return failed | never_seen("last octets", end_refusals, 0x1FEF);
 }
 
 static int steps(unsigned long random_calls)
@@ -1565,14 +1901,18 @@ static int steps(unsigned long random_calls)
     cases_by_name();
     every_field();
     printf("fields: %lu calls\n", calls - before);
+    failed = congestion();
     before = calls;
-    failed = forgotten[2] != 0;
+    failed |= forgotten[2] != 0;
     into_service = out_of_service = forgotten[0] = forgotten[1] = retrieved[0] = retrieved[1] = 0;
     histories(random_calls);
     printf("histories: %lu calls, links into service %lu times, out of it %lu times\n", calls - before,
            into_service, out_of_service);
     printf("BSNT: forgotten %lu times by a confirm, %lu times by a response; retrieved %lu times, %lu times not\n",
            forgotten[0], forgotten[1], retrieved[1], retrieved[0]);
+    failed |= two_cells_missed("histories", random_calls / 200000);
+    printf("signals of one step: at most %lu\n", (unsigned long)most_signals);
+    failed |= most_signals != 8;
     /* No step is refused by 4, which is given no more, or by 13, which is a burst's. */
     failed |= never_seen("step", step_refusals, 0x1FEF);
     failed |= never_seen("fresh", fresh_refusals,
@@ -1611,11 +1951,15 @@ static int all_bursts(unsigned long random_bursts)
     into_service = out_of_service = 0;
     many_events();
     many_octets();
+    congested_bursts();
     burst_by_name();
     burst_histories(random_bursts);
     printf("bursts: %lu calls, %lu events taken, links into service %lu times, out of it %lu"
            " times\n", bursts, events_taken, into_service, out_of_service);
     failed = never_so();
+    failed |= two_cells_missed("bursts", random_bursts / 200000);
+    printf("links congested in 2/10/3 after a burst: %lu\n", congested_proving);
+    failed |= congested_proving != 0;
     failed |= never_seen("burst", burst_refusals, 1 << SSCF_ACCEPTED | 1 << SSCF_REFUSED_TABLE
                                                       | 1 << SSCF_REFUSED_LIST);
     /* No event is refused by 1, 2, 4 or 9, and the list takes no place beside a number. */

@@ -59,19 +59,28 @@ static uint32_t three(unsigned first, unsigned second, unsigned third)
     return (uint32_t)first << 16 | (uint32_t)second << 8 | third;
 }
 
-/* A link with nothing forced, no haste and no BSNT. */
+/* A link with nothing forced, no haste, no BSNT, no congestion and no release sent. */
 static void put_link(unsigned link, unsigned state, unsigned flags, unsigned timers, unsigned c1,
                      unsigned n1)
 {
     uint8_t *record = now.table + SSCF_LINK_OCTETS * link;
 
     memset(record, 0, SSCF_LINK_OCTETS);
-    memcpy(record, "LK", 2);
+    memcpy(record, "LN", 2);
     record[SSCF_LINK_AT_STATE] = (uint8_t)state;
     record[SSCF_LINK_AT_FLAGS] = (uint8_t)flags;
     record[SSCF_LINK_AT_TIMERS] = (uint8_t)timers;
     sscf_put_16(record + SSCF_LINK_AT_C1, c1);
     sscf_put_16(record + SSCF_LINK_AT_N1, n1);
+}
+
+/* Its congestion and the field of its latest release, for a link that put_link has made. */
+static void put_congestion(unsigned link, unsigned congested, unsigned last_field)
+{
+    uint8_t *record = now.table + SSCF_LINK_OCTETS * link;
+
+    record[16] = (uint8_t)congested;
+    record[17] = (uint8_t)last_field;
 }
 
 /* A new table of links out of service, amid octets that the calls must leave alone. */
@@ -129,7 +138,7 @@ static void put_bare_event(unsigned link, unsigned code)
     put_event(link, code, 0, 0, NULL, 0);
 }
 
-/* A signal's record is an event's with another mark. */
+/* A signal's record is an event's with another mark. The link keeps the field of a release. */
 static void want_signal(unsigned link, unsigned code, unsigned parameter, uint32_t number,
                         const uint8_t *message, size_t length)
 {
@@ -139,6 +148,8 @@ static void want_signal(unsigned link, unsigned code, unsigned parameter, uint32
                                   number, message, length);
     memcpy(signal + SSCF_HEAD_AT_MARK, "SG", 2);
     want_signals++;
+    if (code == SSCF_SIGNAL_RELEASE_REQUEST)
+        want.table[20 * link + 17] = (uint8_t)parameter;
 }
 
 static void want_bare_signal(unsigned link, unsigned code)
@@ -172,6 +183,11 @@ static void want_bsnt(unsigned link, uint32_t number)
 static void want_no_bsnt(unsigned link)
 {
     memset(want.table + SSCF_LINK_OCTETS * link + SSCF_LINK_AT_BSNT_KNOWN, 0, 4);
+}
+
+static void want_congested(unsigned link, unsigned congested)
+{
+    want.table[20 * link + 16] = (uint8_t)congested;
 }
 
 /* The calls. A buffer of no octets is lent as a null pointer. */
@@ -261,7 +277,8 @@ static void version(void)
 /* sscf_fresh: as many octets as were lent, and no other. */
 static void fresh_tables(void)
 {
-    static const uint8_t record[16] = {'L', 'K', 1, 0, 0, 0, 0, 0, 0, 0, 0, 0, 0, 0, 0x03, 0xe8};
+    static const uint8_t record[20] = {'L', 'N', 1, 0, 0, 0,    0,    0, 0, 0,
+                                       0,   0,   0, 0, 3, 0xe8, 0,    0, 0, 0};
     static const uint16_t n1s[] = {1, 0xff, 0x100, 0xffff};
     size_t links, n1;
 
@@ -271,20 +288,20 @@ static void fresh_tables(void)
         set_up(0);
         want_nothing();
         for (i = 0; i < links; i++)
-            memcpy(want.table + 16 * i, record, 16);
-        FRESH(16 * links, 1000, 0);
+            memcpy(want.table + 20 * i, record, 20);
+        FRESH(20 * links, 1000, 0);
     }
     for (n1 = 0; n1 < 4; n1++) {
         turn = n1;
         sscf_put_16(want.table + 14, n1s[n1]);
-        FRESH(16, n1s[n1], 0);
+        FRESH(20, n1s[n1], 0);
     }
 }
 
 /* By 1 whatever n1 is, and by 11 at n1, which stands in octets 14 and 15 of a record. */
 static void fresh_refusals(void)
 {
-    static const size_t tables[] = {0, 1, 15, 17, 4095, 4097, 4112};
+    static const size_t tables[] = {0, 1, 10, 16, 19, 21, 30, 4096, 5110, 5119, 5121, 5140};
     size_t i;
 
     set_up(0);
@@ -296,7 +313,7 @@ static void fresh_refusals(void)
     }
     for (i = 1; i <= SSCF_LINKS_MAX; i++) {
         turn = i;
-        FRESH_AT(16 * i, 0, 11, 14);
+        FRESH_AT(20 * i, 0, 11, 14);
     }
 }
 
@@ -474,6 +491,7 @@ static void one_life(void)
 {
     set_up(3);
     put_link(0, 0, 0, 0, 0, 1000);
+    put_congestion(0, 2, 6);
     put_link(2, SSCF_STATE_3_10_5, 0, 0, 0, 0);
     aligns();
     proves();
@@ -652,7 +670,23 @@ static void forgets_by_response(void)
     number_is(0);
 }
 
-/* How many units a connection sends (Table 7), and what the peer is told (Table 8). */
+/* How many units a connection sends, with n1 of 1000 (Table 7), and what the peer is told
+ * (Table 8), by MPS, UPS and what the peer asks for. */
+
+static unsigned units(unsigned mps, unsigned ups, unsigned peer)
+{
+    int no_haste = ups == SSCF_UPS_NORMAL && peer == SSCF_STATUS_NM;
+
+    return mps == SSCF_MPS_NORMAL || (mps == SSCF_MPS_NEUTRAL && no_haste) ? 1000 : 0;
+}
+
+static unsigned told(unsigned mps, unsigned ups)
+{
+    return mps == SSCF_MPS_EMERGENCY || (mps == SSCF_MPS_NEUTRAL && ups == SSCF_UPS_EMERGENCY)
+               ? SSCF_STATUS_EM
+               : SSCF_STATUS_NM;
+}
+
 static void haste(void)
 {
     unsigned mps, ups, peer;
@@ -660,24 +694,19 @@ static void haste(void)
     for (mps = 0; mps <= 2; mps++)
         for (ups = 0; ups <= 1; ups++)
             for (peer = SSCF_STATUS_NM; peer <= SSCF_STATUS_EM; peer++) {
-                int no_haste = ups == SSCF_UPS_NORMAL && peer == SSCF_STATUS_NM;
-                int all = mps == SSCF_MPS_NORMAL || (mps == SSCF_MPS_NEUTRAL && no_haste);
-                int told_em = mps == SSCF_MPS_EMERGENCY || (mps == SSCF_MPS_NEUTRAL && ups == 1);
-
                 turn = 100 * mps + 10 * ups + peer;
                 set_up(1);
                 now.table[SSCF_LINK_AT_MPS] = (uint8_t)mps;
                 now.table[SSCF_LINK_AT_UPS] = (uint8_t)ups;
                 put_bare_event(0, SSCF_EVENT_START);
                 want_link(0, SSCF_STATE_2_2_2, 0, T2, 0);
-                want_signal(0, SSCF_SIGNAL_ESTABLISH_REQUEST,
-                            told_em ? SSCF_STATUS_EM : SSCF_STATUS_NM, 0, NULL, 0);
+                want_signal(0, SSCF_SIGNAL_ESTABLISH_REQUEST, told(mps, ups), 0, NULL, 0);
                 want_report(0, 0, SSCF_REPORT_UPPER_ALN, 0);
                 want_bare_signal(0, SSCF_SIGNAL_SET_T2);
                 STEP(SSCF_ACCEPTED);
 
                 put_event(0, SSCF_EVENT_ESTABLISH_CONFIRM, peer, 0, NULL, 0);
-                want_link(0, SSCF_STATE_2_10_3, 0, T2 + T3, all ? 1000 : 0);
+                want_link(0, SSCF_STATE_2_10_3, 0, T2 + T3, units(mps, ups, peer));
                 want_bare_signal(0, SSCF_SIGNAL_START_PROVING);
                 want_bare_signal(0, SSCF_SIGNAL_SET_T3);
                 STEP(SSCF_ACCEPTED);
@@ -687,7 +716,7 @@ static void haste(void)
 /* Refusals 1, 5 and 9: the buffers' lengths and the link. */
 static void broken_lengths(void)
 {
-    static const size_t tables[] = {0, 1, 15, 17, 4095, 4097, 4112};
+    static const size_t tables[] = {0, 1, 10, 16, 19, 21, 30, 4096, 5110, 5119, 5121, 5140};
     size_t i;
 
     set_up(SSCF_LINKS_MAX);
@@ -711,9 +740,11 @@ static void broken_lengths(void)
     put_bare_event(0, SSCF_EVENT_CONTINUE);
     out_octets = 0;
     STEP(SSCF_REFUSED_OUTPUT);
-    out_octets = 4191;
-    STEP(SSCF_REFUSED_OUTPUT);
     out_octets = 4192;
+    STEP(SSCF_REFUSED_OUTPUT);
+    out_octets = 4239;
+    STEP(SSCF_REFUSED_OUTPUT);
+    out_octets = 4240;
     STEP(SSCF_ACCEPTED);
 }
 
@@ -980,7 +1011,7 @@ static void faults_in_every_state(void)
 static void faults_on_every_table(void)
 {
     static const unsigned tables[] = {1, 2, SSCF_LINKS_MAX};
-    static const size_t rooms[] = {0, 1, 4191, 4192, sizeof now.out};
+    static const size_t rooms[] = {0, 1, 4239, 4240, sizeof now.out};
     size_t i, j, k;
 
     for (i = 0; i < FAULTS; i++)
@@ -1003,7 +1034,7 @@ static void faults_on_every_table(void)
 /* A table that is none, a broken frame and an unknown code go before, and name no field. */
 static void faults_behind_others(void)
 {
-    static const size_t tables[] = {0, 15, 17, 4097, 4112};
+    static const size_t tables[] = {0, 19, 21, 5121, 5140};
     static const uint8_t codes[] = {0, 10, 51, 255};
     static const struct {
         uint8_t at, value;   /* an octet of the head to write over */
@@ -1046,46 +1077,51 @@ static int well_formed(const uint8_t *record)
 {
     int bsnt = record[8] != 0 || record[9] != 0 || record[10] != 0;
 
-    return record[0] == 'L' && record[1] == 'K' && record[2] >= 1 && record[2] <= 8 &&
+    return record[0] == 'L' && record[1] == 'N' && record[2] >= 1 && record[2] <= 8 &&
            record[3] <= 3 && record[4] <= 2 && record[5] <= 1 && record[6] <= 7 && record[7] <= 1 &&
-           (record[7] == 1 || !bsnt) && record[11] == 0 && (record[14] != 0 || record[15] != 0);
+           (record[7] == 1 || !bsnt) && record[11] == 0 && (record[14] != 0 || record[15] != 0) &&
+           record[16] <= 1 && record[17] <= 10 && record[17] != 6 && record[18] == 0 &&
+           record[19] == 0;
 }
 
 static void broken_records(void)
 {
-    unsigned known_bsnt, octet, value;
+    unsigned set, octet, value;
 
-    for (known_bsnt = 0; known_bsnt <= 1; known_bsnt++)
-        for (octet = 0; octet < SSCF_LINK_OCTETS; octet++)
+    for (set = 0; set <= 1; set++) /* BSNT, congested and the last field */
+        for (octet = 0; octet < 20; octet++)
             for (value = 0; value < 256; value++) {
-                uint8_t *record = now.table + SSCF_LINK_OCTETS;
+                uint8_t *record = now.table + 20;
                 turn = 1000 * octet + value;
                 set_up(3);
                 put_link(1, SSCF_STATE_2_10_4, 3, T2, 2, 1);
-                record[7] = record[10] = (uint8_t)known_bsnt;
+                put_congestion(1, set, 10 * set);
+                record[7] = record[10] = (uint8_t)set;
                 record[octet] = (uint8_t)value;
                 put_bare_event(1, SSCF_EVENT_FLUSH_BUFFERS); /* ignored in every state */
                 STEP(well_formed(record) ? SSCF_ACCEPTED : SSCF_REFUSED_RECORD);
             }
 }
 
-/* Refusals 7 and 8: every event in every state, each timer running or not. The states are those
- * listed in sscf.h beside each event. */
+/* The states in which an event is legal, those listed in sscf.h beside it. */
+static const struct {
+    uint8_t first, last; /* codes */
+    const char *legal;
+} rows[] = {
+    {1, 1, ".......8"},   {2, 3, "1234567."},   {4, 4, "..345678"},   {5, 7, "12......"},
+    {8, 9, "12345678"},   {16, 16, "1.3....."}, {17, 17, "...4...."}, {18, 18, "...4.678"},
+    {19, 19, ".2..5..."}, {20, 22, ".....678"}, {23, 23, "12345678"}, {24, 25, "12......"},
+    {32, 32, ".....6.."}, {33, 34, "12345678"}, {35, 35, "123456.."}, {36, 39, "12345678"},
+    {40, 40, "12345.78"}, {48, 48, "..3....."}, {49, 49, "..34567."}, {50, 50, ".....6.."}
+};
+enum { ROWS = sizeof rows / sizeof *rows };
+
+/* Refusals 7 and 8: every event in every state, each timer running or not. */
 static void states(void)
 {
-    static const struct {
-        uint8_t first, last; /* codes */
-        const char *legal;
-    } rows[] = {
-        {1, 1, ".......8"},   {2, 3, "1234567."},   {4, 4, "..345678"},   {5, 7, "12......"},
-        {8, 9, "12345678"},   {16, 16, "1.3....."}, {17, 17, "...4...."}, {18, 18, "...4.678"},
-        {19, 19, ".2..5..."}, {20, 22, ".....678"}, {23, 23, "12345678"}, {24, 25, "12......"},
-        {32, 32, ".....6.."}, {33, 34, "12345678"}, {35, 35, "123456.."}, {36, 39, "12345678"},
-        {40, 40, "12345.78"}, {48, 48, "..3....."}, {49, 49, "..34567."}, {50, 50, ".....6.."}
-    };
     unsigned row, code, state, timers;
 
-    for (row = 0; row < sizeof rows / sizeof *rows; row++)
+    for (row = 0; row < ROWS; row++)
         for (code = rows[row].first; code <= rows[row].last; code++)
             for (state = 1; state <= 8; state++)
                 for (timers = 0; timers <= 7; timers++) {
@@ -1180,8 +1216,21 @@ static void crossings(void)
         {6, 2 + 4, {{SSCF_EVENT_STOP, 0, 0, 2}, {SSCF_EVENT_PROVING_UNSUCCESSFUL, 0, 8, 2}}},
         {1, 0, {{SSCF_EVENT_START, 0, 0, 4},
                 {SSCF_EVENT_CONGESTION, 1, 0, 4},
+                {SSCF_EVENT_ESTABLISH_CONFIRM, SSCF_STATUS_NM, 0, 5}, /* proving ends at once */
+                {SSCF_EVENT_PROVING_UNSUCCESSFUL, 0, 8, 5},
+                {SSCF_EVENT_CONGESTION_CEASED, 0, 0, 5},
+                {SSCF_EVENT_RELEASE_CONFIRM, 0, 0, 3}}},
+        /* a congestion that ends as the connection comes up, before it and behind it */
+        {1, 0, {{SSCF_EVENT_CONGESTION, 0, 0, 1},
+                {SSCF_EVENT_START, 0, 0, 4},
+                {SSCF_EVENT_CONGESTION_CEASED, 0, 0, 4},
                 {SSCF_EVENT_ESTABLISH_CONFIRM, SSCF_STATUS_NM, 0, 6},
-                {SSCF_EVENT_CONGESTION_CEASED, 0, 8, 6}}},
+                {SSCF_EVENT_CONGESTION_CEASED, 0, 8, 6}}}, /* a second end: the host's own fault */
+        {3, 1 + 2, {{SSCF_EVENT_CONGESTION, 3, 0, 3},
+                    {SSCF_EVENT_ESTABLISH_INDICATION, SSCF_STATUS_EM, 0, 5},
+                    {SSCF_EVENT_CONGESTION_CEASED, 0, 0, 5},
+                    {SSCF_EVENT_RELEASE_CONFIRM, 0, 0, 3},
+                    {SSCF_EVENT_ESTABLISH_INDICATION, SSCF_STATUS_EM, 0, 6}}},
         /* a retrieval that goes on after the next START */
         {1, 0, {{SSCF_EVENT_RETRIEVAL_REQUEST_AND_FSNC, 0, 0, 1},
                 {SSCF_EVENT_START, 0, 0, 4},
@@ -1248,8 +1297,9 @@ static void set_length(size_t length)
     event_octets = SSCF_HEAD_OCTETS + length;
 }
 
-/* Makes the call wrong by one of the numbers, and answers the place that goes with it. */
-static uint32_t make_wrong(unsigned refusal, uint32_t not_carried)
+/* Makes the call wrong by one of the numbers, and answers the place that goes with it. A record is
+ * ill-formed by one of its octets, the first or one of the last four: 6 is wrong in all of them. */
+static uint32_t make_wrong(unsigned refusal, uint32_t not_carried, unsigned octet)
 {
     uint8_t *record = now.table + SSCF_LINK_OCTETS;
 
@@ -1279,7 +1329,7 @@ static uint32_t make_wrong(unsigned refusal, uint32_t not_carried)
         sscf_put_16(now.event + SSCF_HEAD_AT_LINK, 3);
         return 0;
     case 6:
-        record[SSCF_LINK_AT_MARK] = 'X';
+        record[octet] = 6;
         return 0;
     case 7:
         record[SSCF_LINK_AT_TIMERS] = T2;
@@ -1288,31 +1338,39 @@ static uint32_t make_wrong(unsigned refusal, uint32_t not_carried)
         record[SSCF_LINK_AT_STATE] = SSCF_STATE_1_1_1;
         return 0;
     default:
-        out_octets = 4191;
+        out_octets = 4239;
         return 0;
     }
 }
 
+static void several_wrong_are(unsigned event, unsigned wrong, unsigned octet)
+{
+    uint32_t first = 0, place = 0;
+    unsigned i;
+
+    set_up(3);
+    put_link(1, several[event].state, 0, several[event].timers, 5, 1000);
+    put_event(1, several[event].code, 0, 0, message, several[event].length);
+    for (i = 9; i-- > 0;) /* from the last, so that what stays is of the first */
+        if (wrong >> i & 1) {
+            first = several[event].refusals[i];
+            place = make_wrong(first, several[event].not_carried, octet);
+        }
+    want_nothing();
+    STEP_AT(first, place);
+}
+
 static void several_wrong(void)
 {
+    static const unsigned octets[] = {0, 16, 17, 18, 19};
     unsigned event, wrong, i;
 
     for (event = 0; event < sizeof several / sizeof *several; event++)
-        for (wrong = 1; wrong < 1u << 9; wrong++) {
-            uint32_t first = 0, place = 0;
-
-            turn = 1000 * event + wrong;
-            set_up(3);
-            put_link(1, several[event].state, 0, several[event].timers, 5, 1000);
-            put_event(1, several[event].code, 0, 0, message, several[event].length);
-            for (i = 9; i-- > 0;) /* from the last, so that what stays is of the first */
-                if (wrong >> i & 1) {
-                    first = several[event].refusals[i];
-                    place = make_wrong(first, several[event].not_carried);
-                }
-            want_nothing();
-            STEP_AT(first, place);
-        }
+        for (wrong = 1; wrong < 1u << 9; wrong++)
+            for (i = 0; i < sizeof octets / sizeof *octets; i++) {
+                turn = 10000 * event + 10 * wrong + i;
+                several_wrong_are(event, wrong, octets[i]);
+            }
 }
 
 /*
@@ -1355,7 +1413,7 @@ static void set_up_starts(unsigned starts)
 /* No events: nothing is asked for, neither room nor a list. */
 static void burst_of_none(void)
 {
-    static const size_t rooms[] = {0, 4191, 4192};
+    static const size_t rooms[] = {0, 4239, 4240};
     size_t i;
 
     for (i = 0; i < 3; i++) {
@@ -1374,7 +1432,7 @@ static void burst_into_service(void)
 {
     set_up(1);
     put_link(0, 6, 1, 2 + 4, 1, 1000);
-    out_octets = 28 + 4192;
+    out_octets = 28 + 4240;
     places = 2;
     add_bare_event(0, 50);
     add_bare_event(0, 50);
@@ -1483,7 +1541,7 @@ static void burst_faults(void)
 /* Refusal 1, which comes before all else. */
 static void burst_tables(void)
 {
-    static const size_t tables[] = {0, 17, 4112};
+    static const size_t tables[] = {0, 21, 5140};
     size_t i;
 
     for (i = 0; i < 3; i++) {
@@ -1498,7 +1556,7 @@ static void burst_tables(void)
         BURST(1, 0, 0, 0);
         places = 1;
         BURST(1, 0, 0, 0);
-        out_octets = 4191;
+        out_octets = 4239;
         BURST(1, 0, 0, 0);
         now.event[SSCF_HEAD_AT_ZERO] = 1;
         want_nothing();
@@ -1518,7 +1576,7 @@ static void burst_lists(void)
         places = too_few;
         want_nothing();
         BURST(13, 0, 0, 0);
-        out_octets = 4192;
+        out_octets = 4240;
         BURST(13, 0, 0, 0);
         out_octets = 0;
         BURST(13, 0, 0, 0);
@@ -1565,7 +1623,7 @@ static const struct {
     uint16_t past;   /* the end: by so many octets, where it is not 0 */
 } broken_starts[] = {
     {1, "EV", 0, 0, 0},       {2, "EV", 0, 0, 0},      {11, "EV", 0, 0, 0},
-    {12, "SG", 0, 0, 0},      {12, "LK", 0, 0, 0},     {12, "EG", 0, 0, 0},
+    {12, "SG", 0, 0, 0},      {12, "LN", 0, 0, 0},     {12, "EG", 0, 0, 0},
     {12, "SV", 0, 0, 0},      {12, "VE", 0, 0, 0},     {12, "ev", 0, 0, 0},
     {12, "EV", 1, 0, 0},      {12, "EV", 0x80, 0, 0},  {12, "EV", 255, 0, 0},
     {12 + 4097, "EV", 0, 4097, 0},                     {12, "EV", 0, 4097, 0},
@@ -1614,19 +1672,19 @@ static void burst_broken_frames_without_room(void)
         turn = sound;
         set_up_starts(3);
         memcpy(now.event + 12 * sound, "SG", 2);
-        out_octets = 36 * sound + 4191;
+        out_octets = 36 * sound + 4239;
         want_taken((unsigned)sound);
         BURST(0, 2, sound, 12 * sound);
 
         set_up_starts(3);
         event_octets += 11;
-        out_octets = 36 * sound + 4191;
+        out_octets = 36 * sound + 4239;
         want_taken((unsigned)sound);
         BURST(0, 0, sound, 12 * sound);
     }
 }
 
-/* Without 4,192 octets no event is taken: not one that writes nothing, nor one that is refused. */
+/* Without 4,240 octets no event is taken: not one that writes nothing, nor one that is refused. */
 static void burst_without_room(void)
 {
     static const uint8_t codes[] = {SSCF_EVENT_START, SSCF_EVENT_CONTINUE, SSCF_EVENT_STOP, 51};
@@ -1641,10 +1699,12 @@ static void burst_without_room(void)
         want_nothing();
         out_octets = 0;
         BURST(0, 0, 0, 0);
-        out_octets = 4191;
+        out_octets = 4192;
+        BURST(0, 0, 0, 0);
+        out_octets = 4239;
         BURST(0, 0, 0, 0);
 
-        out_octets = 4192;
+        out_octets = 4240;
         if (i == 0)
             want_start(0, 0);
         want_number(0, numbers[i]);
@@ -1662,12 +1722,12 @@ static void burst_rooms(void)
     for (starts = 1; starts <= 3; starts++) {
         turn = starts;
         set_up_starts(3);
-        out_octets = 36 * (starts - 1) + 4192;
+        out_octets = 36 * (starts - 1) + 4240;
         want_taken(starts);
         BURST(0, 0, starts, 12 * starts);
 
         set_up_starts(3);
-        out_octets = 36 * (starts - 1) + 4191;
+        out_octets = 36 * (starts - 1) + 4239;
         want_taken(starts - 1);
         BURST(0, 0, starts - 1, 12 * (starts - 1));
     }
@@ -1718,6 +1778,422 @@ static void bursts_of_one(void)
                 now = before;
                 BURST(0, 0, 1, event_octets);
             }
+}
+
+/*
+ * Request 2026-07: a congested link does not prove, and the record keeps the field of the latest
+ * release. By numbers, as the request and Table 6 have them, so that the names are checked too.
+ */
+
+static void new_sizes(void)
+{
+    CHECK(SSCF_LINK_OCTETS == 20 && SSCF_TABLE_OCTETS_MAX == 5120 && SSCF_OUTPUT_OCTETS == 4240);
+    CHECK(SSCF_LINK_OCTETS * SSCF_LINKS_MAX == SSCF_TABLE_OCTETS_MAX);
+    CHECK(12 * SSCF_HEAD_OCTETS + SSCF_MESSAGE_OCTETS_MAX == SSCF_OUTPUT_OCTETS);
+    CHECK(SSCF_SIGNALS_MAX == 8);
+    CHECK(SSCF_LINK_AT_CONGESTED == 16 && SSCF_LINK_AT_LAST_FIELD == 17);
+    CHECK(SSCF_LINK_AT_ZEROS == 18);
+    set_up(2);
+    put_congestion(1, 1, 10);
+    CHECK(sscf_link_congested(now.table, 0) == 0 && sscf_link_congested(now.table, 1) == 1);
+    CHECK(sscf_link_last_field(now.table, 0) == 0 && sscf_link_last_field(now.table, 1) == 10);
+}
+
+/* The two ways into 2/10/3 from another state, ESTABLISH-indication in 2/1/2 and ESTABLISH-confirm
+ * in 2/2/2, and what their cells come to. */
+enum way { BY_INDICATION, BY_CONFIRM };
+
+static void put_way_in(enum way way, unsigned peer)
+{
+    put_event(1, way == BY_INDICATION ? 16 : 17, peer, 0, NULL, 0);
+}
+
+static void want_way_in(enum way way, unsigned told_peer)
+{
+    if (way == BY_INDICATION)
+        want_signal(1, 17, told_peer, 0, NULL, 0);
+    want_bare_signal(1, 32);
+    if (way == BY_INDICATION)
+        want_bare_signal(1, 56);
+    want_bare_signal(1, 50);
+}
+
+/* Congestion in 2/10/3: a release with PNS, REPORT {LR,-,CD}, stop proving, reset T3. */
+static void want_given_up(void)
+{
+    want_signal(1, 18, 10, 0, NULL, 0);
+    want_signal(1, 34, 0, three(1, 0, 3), NULL, 0);
+    want_bare_signal(1, 33);
+    want_bare_signal(1, 58);
+}
+
+struct setting {
+    unsigned mps, ups, flags, timers, congested, last_field;
+};
+
+/* Congested, the step goes on behind all signals of the first cell, its timer orders too, and ends
+ * in 2/4/2; all else of the record is as that cell left it. */
+static void comes_up(enum way way, struct setting s, unsigned peer)
+{
+    const unsigned timers = way == BY_INDICATION ? s.timers & ~1u : s.timers;
+    uint8_t *record = now.table + 20;
+
+    set_up(3);
+    put_link(1, way == BY_INDICATION ? 3 : 4, s.flags, s.timers, 7, 1000);
+    put_congestion(1, s.congested, s.last_field);
+    record[4] = (uint8_t)s.mps;
+    record[5] = (uint8_t)s.ups;
+    record[7] = record[10] = 1; /* BSNT 1, of the connection before */
+    put_way_in(way, peer);
+    want_no_bsnt(1);
+    want_way_in(way, told(s.mps, s.ups));
+    if (s.congested) {
+        want_given_up();
+        want_link(1, 5, s.flags & 2, timers & ~4u, units(s.mps, s.ups, peer));
+        CHECK(want_signals == (way == BY_INDICATION ? 8 : 6));
+    } else {
+        want_link(1, 6, s.flags & 2, timers | 4, units(s.mps, s.ups, peer));
+    }
+    STEP(SSCF_ACCEPTED);
+}
+
+/* The status codes, and 0 for no field. */
+static const uint8_t status_codes[] = {0, 1, 2, 3, 4, 5, 7, 8, 9, 10};
+
+/* Under every MPS, UPS and field of the peer, with all flags, timers and last fields. */
+static void ways_in(void)
+{
+    unsigned n;
+
+    for (n = 0; n < 3 * 2 * 4 * 8 * 2 * 10; n++) {
+        struct setting s;
+
+        turn = n;
+        s.mps = n % 3;
+        s.ups = n / 3 % 2;
+        s.flags = n / 6 % 4;
+        s.timers = n / 24 % 8;
+        s.congested = n / 192 % 2;
+        s.last_field = status_codes[n / 384];
+        comes_up(BY_INDICATION, s, 4);
+        comes_up(BY_INDICATION, s, 5);
+        comes_up(BY_CONFIRM, s, 4);
+        comes_up(BY_CONFIRM, s, 5);
+    }
+}
+
+/* A connection with another field is released for that, by PE, and a call in 1/1/1 is turned down;
+ * neither enters 2/10/3, and so congestion adds nothing. */
+static void other_ways(void)
+{
+    unsigned n, congested;
+
+    for (n = 0; n < sizeof status_codes; n++)
+        for (congested = 0; congested <= 1; congested++) {
+            const unsigned field = status_codes[n];
+
+            turn = 10 * field + congested;
+            set_up(2);
+            put_congestion(1, congested, 8);
+            put_event(1, 16, field, 0, NULL, 0);
+            want_signal(1, 18, 1, 0, NULL, 0);
+            STEP(SSCF_ACCEPTED);
+            if (field == 4 || field == 5)
+                continue;
+            put_link(1, 3, 1, 1 + 2, 7, 1000);
+            put_congestion(1, congested, 8);
+            put_way_in(BY_INDICATION, field);
+            want_signal(1, 18, 9, 0, NULL, 0);
+            want_signal(1, 34, 0, three(1, 0, 4), NULL, 0);
+            STEP(SSCF_ACCEPTED);
+            put_link(1, 4, 0, 2, 7, 1000);
+            put_congestion(1, congested, 8);
+            put_way_in(BY_CONFIRM, field);
+            want_link(1, 5, 0, 2, 1000);
+            want_signal(1, 18, 9, 0, NULL, 0);
+            want_signal(1, 34, 0, three(1, 0, 4), NULL, 0);
+            STEP(SSCF_ACCEPTED);
+        }
+}
+
+/* What congestion and its end come to in a state, the flag apart: Table 6. */
+
+static void want_begun(unsigned state, unsigned level)
+{
+    if (state == 6) { /* its cell is performed once */
+        want_given_up();
+        want_link(1, 5, 1, 1 + 2, 7);
+    } else if (state >= 7) {
+        want_signal(1, 2, level, 0, NULL, 0);
+        want_signal(1, 34, 0, three(0, 0, 3), NULL, 0);
+    }
+}
+
+static void want_ended(unsigned state)
+{
+    if (state >= 7)
+        want_bare_signal(1, 3);
+    if (state >= 7 || state == 5)
+        want_signal(1, 34, 0, three(0, 0, 2), NULL, 0);
+}
+
+/* In every state, congested before or not. An end that is refused leaves the flag. */
+static void flags_set_and_cleared(void)
+{
+    unsigned state, congested, level;
+
+    for (state = 1; state <= 8; state++)
+        for (congested = 0; congested <= 1; congested++)
+            for (level = 0; level <= 4; level++) {
+                turn = 100 * state + 10 * congested + level;
+                set_up(3);
+                put_link(1, state, 1, 1 + 2 + 4, 7, 1000);
+                put_congestion(1, congested, 7);
+                if (level < 4) {
+                    put_event(1, 39, level, 0, NULL, 0);
+                    want_congested(1, 1);
+                    want_begun(state, level);
+                } else {
+                    put_bare_event(1, 40);
+                    if (state != 6)
+                        want_congested(1, 0);
+                    want_ended(state);
+                }
+                STEP(level == 4 && state == 6 ? SSCF_REFUSED_STATE : SSCF_ACCEPTED);
+            }
+}
+
+/* A record made by hand, congested in 2/10/3, is well-formed: it proves on by T3, and comes into
+ * service. */
+static void congested_by_hand(void)
+{
+    set_up(2);
+    put_link(1, 6, 0, 2 + 4, 1, 1000);
+    put_congestion(1, 1, 3);
+    put_bare_event(1, 50);
+    want_link(1, 6, 0, 2 + 4, 0);
+    want_signal(1, 19, 0, 0, nm_unit, 4);
+    want_bare_signal(1, 50);
+    STEP(SSCF_ACCEPTED);
+    put_event(1, 20, 0, 5, nm_unit, 4);
+    want_bsnt(1, 5);
+    STEP(SSCF_ACCEPTED);
+    put_bare_event(1, 50);
+    want_link(1, 7, 0, 2, 0);
+    want_bare_signal(1, 33);
+    want_signal(1, 19, 0, 0, ins_unit, 4);
+    STEP(SSCF_ACCEPTED);
+    put_event(1, 20, 0, 6, ins_unit, 4);
+    want_link(1, 8, 0, 0, 0);
+    want_bsnt(1, 6);
+    want_bare_signal(1, 4);
+    want_signal(1, 34, 0, three(0, 2, 0), NULL, 0);
+    want_bare_signal(1, 57);
+    STEP(SSCF_ACCEPTED);
+}
+
+/* A link that is congested from before its START on: its connection comes up three times and is
+ * given up each time, and when the congestion is over it proves. The last field was another's. */
+
+static void tries_in_vain(enum way way)
+{
+    put_way_in(way, 4);
+    want_way_in(way, 4);
+    want_given_up();
+    want_link(1, 5, 0, 2, 1000);
+    STEP(SSCF_ACCEPTED);
+    put_bare_event(1, 19);
+    want_link(1, 3, 0, 1 + 2, 1000);
+    want_bare_signal(1, 48);
+    STEP(SSCF_ACCEPTED);
+}
+
+static void tries_again(void)
+{
+    put_bare_event(1, 48);
+    want_link(1, 4, 0, 2, 1000);
+    want_signal(1, 16, 4, 0, NULL, 0);
+    STEP(SSCF_ACCEPTED);
+}
+
+static void congested_life(void)
+{
+    set_up(2);
+    put_congestion(1, 0, 1);
+    put_event(1, 39, 2, 0, NULL, 0);
+    want_congested(1, 1);
+    STEP(SSCF_ACCEPTED);
+    put_bare_event(1, 5);
+    want_start(1, 0);
+    STEP(SSCF_ACCEPTED);
+    tries_in_vain(BY_CONFIRM);
+    tries_in_vain(BY_INDICATION);
+    tries_again();
+    tries_in_vain(BY_CONFIRM);
+    put_bare_event(1, 40);
+    want_congested(1, 0);
+    STEP(SSCF_ACCEPTED);
+    tries_again();
+    put_way_in(BY_CONFIRM, 4);
+    want_way_in(BY_CONFIRM, 4);
+    want_link(1, 6, 0, 2 + 4, 1000);
+    STEP(SSCF_ACCEPTED);
+    CHECK(now.table[20 + 16] == 0 && now.table[20 + 17] == 10);
+}
+
+/* Every cell of Table 6 that sends a release, with its field. An event brings a field, or as a
+ * message an INS unit, an NM unit or one of five octets; LPO is flag 2, and C1 is 0. */
+static const struct {
+    uint8_t state, code, field, flags;
+    const uint8_t *message;
+    uint8_t length, sent;
+} releases[] = {
+    {1, 16, 0, 0, NULL, 0, 1},       {1, 16, 4, 0, NULL, 0, 1},       {1, 16, 5, 1, NULL, 0, 1},
+    {1, 16, 0, 2, NULL, 0, 2},       {1, 16, 4, 2, NULL, 0, 2},       {3, 16, 0, 0, NULL, 0, 9},
+    {3, 16, 10, 2, NULL, 0, 9},      {4, 4, 0, 0, NULL, 0, 1},        {4, 17, 0, 0, NULL, 0, 9},
+    {4, 17, 1, 2, NULL, 0, 9},       {4, 33, 0, 0, NULL, 0, 8},       {4, 49, 0, 0, NULL, 0, 7},
+    {6, 4, 0, 0, NULL, 0, 1},        {6, 20, 0, 0, message, 5, 9},    {6, 21, 0, 0, NULL, 0, 9},
+    {6, 22, 0, 0, NULL, 0, 9},       {6, 32, 0, 0, NULL, 0, 10},      {6, 33, 0, 0, NULL, 0, 8},
+    {6, 39, 0, 0, NULL, 0, 10},      {6, 39, 3, 0, NULL, 0, 10},      {6, 49, 0, 0, NULL, 0, 7},
+    {6, 50, 0, 2, NULL, 0, 2},       {6, 50, 0, 3, NULL, 0, 2},       {7, 4, 0, 0, NULL, 0, 1},
+    {7, 20, 0, 0, message, 5, 9},    {7, 21, 0, 0, NULL, 0, 9},       {7, 33, 0, 0, NULL, 0, 8},
+    {7, 34, 0, 0, NULL, 0, 2},       {7, 49, 0, 0, NULL, 0, 7},       {8, 4, 0, 0, NULL, 0, 1},
+    {8, 20, 0, 0, ins_unit, 4, 9},   {8, 20, 0, 0, nm_unit, 4, 9},    {8, 21, 0, 0, NULL, 0, 9},
+    {8, 33, 0, 0, NULL, 0, 8},       {8, 34, 0, 0, NULL, 0, 2}
+};
+enum { RELEASES = sizeof releases / sizeof *releases };
+
+/* The field of the one release in what a step wrote; 0 if there is none. */
+static unsigned field_sent(struct sscf_answer answer)
+{
+    const uint8_t *signal;
+
+    for (signal = sscf_first_signal(now.out, answer); signal != NULL;
+         signal = sscf_next_signal(now.out, answer, signal))
+        if (signal[4] == 18)
+            return signal[5];
+    return 0;
+}
+
+/* What is sent is kept, and where nothing is sent what was kept before: by every field before it,
+ * congested or not. Only 39 and 40 alter the flag. */
+static void field_is_kept(unsigned state, unsigned flags, unsigned code, unsigned field,
+                          const uint8_t *octets, size_t length, unsigned sent)
+{
+    unsigned n, congested;
+
+    for (n = 0; n < sizeof status_codes; n++)
+        for (congested = 0; congested <= 1; congested++) {
+            const unsigned flag = code == 39 ? 1 : code == 40 ? 0 : congested;
+            const unsigned kept = status_codes[n];
+            struct sscf_answer answer;
+
+            set_up(1);
+            put_link(0, state, flags, 1 + 2 + 4, 0, 1000);
+            put_congestion(0, congested, kept);
+            put_event(0, code, field, 0, octets, length);
+            answer = step();
+            CHECK(answer.refusal == SSCF_ACCEPTED);
+            CHECK(field_sent(answer) == sent);
+            CHECK(now.table[16] == flag && now.table[17] == (sent != 0 ? sent : kept));
+            CHECK(now.table[18] == 0 && now.table[19] == 0);
+        }
+}
+
+static void last_fields(void)
+{
+    unsigned i;
+
+    for (i = 0; i < RELEASES; i++) {
+        turn = i;
+        field_is_kept(releases[i].state, releases[i].flags, releases[i].code, releases[i].field,
+                      releases[i].message, releases[i].length, releases[i].sent);
+    }
+}
+
+/* Whether a bare event, or with a code that needs one a message of five octets, sends one. */
+static unsigned bare_release(unsigned state, unsigned code)
+{
+    unsigned i;
+
+    for (i = 0; i < RELEASES; i++)
+        if (releases[i].state == state && releases[i].code == code && releases[i].field == 0 &&
+            releases[i].flags == 0 && releases[i].length == 0)
+            return releases[i].sent;
+    return 0;
+}
+
+static void last_fields_kept(void)
+{
+    unsigned row, code, state;
+
+    for (row = 0; row < ROWS; row++)
+        for (code = rows[row].first; code <= rows[row].last; code++)
+            for (state = 1; state <= 8; state++) {
+                turn = 10 * code + state;
+                if (rows[row].legal[state - 1] != '.')
+                    field_is_kept(state, 0, code, 0, message, code == 1 ? 5 : 0,
+                                  bare_release(state, code));
+            }
+}
+
+/* Both ways in one burst, with a START of another link between them, and room that ends behind each
+ * of the six events, or an octet before. */
+
+static void add_congested_events(void)
+{
+    add_start(1);
+    add_event(1, 39, 2, 0, NULL, 0);
+    add_event(1, 17, 4, 0, NULL, 0);
+    add_start(0);
+    add_bare_event(1, 19);
+    add_event(1, 16, 5, 0, NULL, 0);
+}
+
+static void want_congested_events(size_t taken)
+{
+    want_nothing();
+    memset(want.list, 0, taken * sizeof *want.list);
+    if (taken > 0)
+        want_start(1, 0);
+    if (taken > 1)
+        want_congested(1, 1);
+    if (taken > 2) {
+        want_way_in(BY_CONFIRM, 4);
+        want_given_up();
+        want_link(1, 5, 0, 2, 1000);
+    }
+    if (taken > 3)
+        want_start(0, 0);
+    if (taken > 4) {
+        want_bare_signal(1, 48);
+        want_link(1, 3, 0, 1 + 2, 1000);
+    }
+    if (taken > 5) {
+        want_way_in(BY_INDICATION, 4);
+        want_given_up();
+        want_link(1, 5, 0, 2, 0);
+    }
+}
+
+static void burst_congested(void)
+{
+    /* the octets written before each event, and behind the last */
+    static const size_t written[] = {0, 36, 36, 108, 144, 156, 252};
+    size_t event, less, taken;
+
+    for (event = 0; event < 6; event++)
+        for (less = 0; less <= 1; less++) {
+            turn = 10 * event + less;
+            set_up(2);
+            add_congested_events();
+            out_octets = written[event] + 4240 - less;
+            for (taken = 0; taken < 6 && out_octets - written[taken] >= 4240; taken++)
+                ;
+            want_congested_events(taken);
+            CHECK(want_octets == written[taken]);
+            BURST(0, 0, taken, 12 * taken);
+        }
 }
 
 /*
@@ -2273,6 +2749,8 @@ int main(void)
         burst_list_before_a_broken_frame,
         burst_broken_frames, burst_broken_frames_without_room, burst_without_room, burst_rooms,
         burst_goes_on, bursts_of_one,
+        new_sizes,     ways_in,        other_ways,     flags_set_and_cleared, congested_by_hand,
+        congested_life, last_fields,   last_fields_kept, burst_congested,
         changeovers,    changeover_bits, changeover_widths,
         changeover_lengths, changeover_headings_and_services, every_changeover_octet,
         changeover_several_wrong,
