@@ -98,7 +98,7 @@ static uint32_t sent[LINKS]; /* messages, for their numbers */
 static void sscop(unsigned link, unsigned cause, const uint8_t *signal)
 {
     unsigned peer = 1 - link, field = signal[SSCF_HEAD_AT_PARAMETER];
-    int turned_down = cause == SSCF_EVENT_ESTABLISH_INDICATION;
+    int turned_down = cause == SSCF_EVENT_ESTABLISH_INDICATION && !connected; /* no response yet */
 
     switch (signal[SSCF_HEAD_AT_CODE]) {
     case SSCF_SIGNAL_ESTABLISH_REQUEST:

@@ -107,7 +107,7 @@ static void connect_ends(void)
     }
 }
 
-static void sscop(unsigned link, unsigned cause, const uint8_t *signal)
+static void sscop(unsigned link, int turned_down, const uint8_t *signal)
 {
     unsigned peer = 1 - link, field = signal[SSCF_HEAD_AT_PARAMETER];
 
@@ -133,7 +133,7 @@ static void sscop(unsigned link, unsigned cause, const uint8_t *signal)
         break;
     case SSCF_SIGNAL_RELEASE_REQUEST:
         forget_connection(link);
-        if (cause != SSCF_EVENT_ESTABLISH_INDICATION) /* that turns a call down: no confirm */
+        if (!turned_down) /* a call: that has no confirm */
             post(link, SSCF_EVENT_RELEASE_CONFIRM, 0, 0, NULL, 0);
         if (ends[peer].phase != IDLE)
             post(peer, SSCF_EVENT_RELEASE_INDICATION, field, SSCF_SOURCE_USER, NULL, 0);
@@ -147,9 +147,9 @@ static void sscop(unsigned link, unsigned cause, const uint8_t *signal)
     }
 }
 
-/* A signal goes to whom it is for, with the code of the event that it follows from. There is no
- * layer management here to hear its own. */
-static void hand_on(unsigned link, unsigned cause, const uint8_t *signal)
+/* A signal goes to whom it is for; SSCOP also knows whether it turns a call down. There is no layer
+ * management here to hear its own. */
+static void hand_on(unsigned link, int turned_down, const uint8_t *signal)
 {
     unsigned code = signal[SSCF_HEAD_AT_CODE];
 
@@ -158,7 +158,7 @@ static void hand_on(unsigned link, unsigned cause, const uint8_t *signal)
     else if (code >= SSCF_SIGNAL_RESET_T1 && code <= SSCF_SIGNAL_RESET_T3)
         due[TIMERS * link + code - SSCF_SIGNAL_RESET_T1] = 0;
     else if (code >= SSCF_SIGNAL_ESTABLISH_REQUEST && code <= SSCF_SIGNAL_RETRIEVE_REQUEST)
-        sscop(link, cause, signal);
+        sscop(link, turned_down, signal);
     else if (code == SSCF_SIGNAL_RECEIVED_MESSAGE)
         printf("          received: %.*s\n", (int)sscf_get_16(signal + SSCF_HEAD_AT_LENGTH),
                (const char *)signal + SSCF_HEAD_OCTETS);
@@ -192,12 +192,15 @@ static void print_event(unsigned link, const uint8_t *event)
     printf("\n");
 }
 
-/* One event. What it posts waits behind the last of its signals, as sscf.h asks. */
+/* One event. What it posts waits behind the last of its signals, as sscf.h asks. A call is turned
+ * down where its first answer is a release: one behind a response gives up a connection. */
 static void step(const uint8_t *event, size_t octets)
 {
     static uint8_t out[SSCF_OUTPUT_OCTETS];
     struct sscf_answer answer = sscf_step(table, sizeof table, event, octets, out, sizeof out);
     unsigned link = sscf_get_16(event + SSCF_HEAD_AT_LINK);
+    int turned_down = event[SSCF_HEAD_AT_CODE] == SSCF_EVENT_ESTABLISH_INDICATION &&
+                      out[SSCF_HEAD_AT_CODE] == SSCF_SIGNAL_RELEASE_REQUEST;
     const uint8_t *signal;
 
     print_event(link, event);
@@ -207,7 +210,7 @@ static void step(const uint8_t *event, size_t octets)
         fail_by(answer.refusal, answer.place);
     for (signal = sscf_first_signal(out, answer); signal != NULL;
          signal = sscf_next_signal(out, answer, signal))
-        hand_on(link, event[SSCF_HEAD_AT_CODE], signal);
+        hand_on(link, turned_down, signal);
     keep_register(link);
 }
 

@@ -14,9 +14,10 @@ three() { octets $(($1 / 65536)) $(($1 / 256 % 256)) $(($1 % 256)); }
 
 # A record of a link that is out of service, with its n1.
 fresh() { # N1
-    printf LK
+    printf LN
     octets 1 0 0 0 0 0 0 0 0 0 0 0
     two "$1"
+    octets 0 0 0 0
 }
 
 # An event without its message: link, code, parameter, number, length of the message.
