@@ -26,8 +26,8 @@
  * nothing back; every call returns, whatever octets it is given. All it knows of the links stands
  * in the table, which is the host's: it may be copied, stored and carried to another process, where
  * one copy alone goes on, the latest, whole, and with it the list of its deadlines, if the calls of
- * DEADLINES keep them. What the calls promise, beside each of them below, is proved of the code, for every
- * table, every event, every message and every list.
+ * DEADLINES keep them. What the calls promise, beside each of them below, is proved of the code,
+ * for every table, every event, every message and every list.
  *
  * Of the C library it needs memmove, and for DEADLINES memset; a later version may also need
  * memcpy, memcmp or bcmp. A step or a burst takes at most 256 octets of stack, a call of DEADLINES
@@ -42,6 +42,12 @@
  * on the way is tried again after T1 (state 3), unless the peer connects first; when T2 expires the
  * link is given up. A link that was given up, was stopped or has left service is out of service
  * (state 1, or 2 while SSCOP has still to confirm a release) until the next START.
+ *
+ * A link that is congested is not left proving (Q.2140, Note 7 of Table 6), also where no unit
+ * would be sent. A connection with which it would prove is given up in the same step (state 5), as
+ * CONGESTION gives one up in state 6. When SSCOP has confirmed the release T1 is set (state 3), and
+ * at its expiry, or when the peer connects, the link tries again, until T2 expires.
+ * CONGESTION_CEASED by itself starts no attempt.
  *
  * A link is in service in state 8 and in no other. The user is told by IN_SERVICE and
  * OUT_OF_SERVICE; its own STOP, once accepted, takes the link out of service with no
@@ -65,6 +71,12 @@
  * there was none. A connection comes up when ESTABLISH_CONFIRM is accepted, whatever its field, or
  * when ESTABLISH_RESPONSE is given; one that was only asked for, or that was turned down in state 1
  * or 3, does not, and leaves the number as it was.
+ *
+ * Nor does a link prove while it is congested. After every such sequence of calls this is proved: a
+ * link's record says congested exactly if there was a CONGESTION or CONGESTION_CEASED that was
+ * accepted and the latest of them was CONGESTION; no link is congested in state 6; and no proving
+ * unit is ever sent on a connection that came up while its link was congested. The last release
+ * field (octet 17) is that of the link's latest RELEASE_REQUEST, and 0 if there was none.
  *
  * A FIRST USE
  *
@@ -116,18 +128,22 @@
  *   ESTABLISH_REQUEST, by START or by T1. In state 4 an ESTABLISH_CONFIRM or RELEASE_INDICATION of
  *   the connection before would be taken for one of the present connection. A host with a queue
  *   takes SSCOP's events 16 to 22 of that link out of it as it hands the RELEASE_REQUEST on.
- * - SSCOP gives no RELEASE_CONFIRM for a RELEASE_REQUEST in answer to ESTABLISH_INDICATION: this
- *   turns the peer's call down, and the link, in state 1 or 3, awaits none. Later, in state 2 or 5,
- *   it would be taken for another's.
+ * - SSCOP gives no RELEASE_CONFIRM for a RELEASE_REQUEST that is the first answer to
+ *   ESTABLISH_INDICATION: this turns the peer's call down, and the link, in state 1 or 3, awaits
+ *   none. Later, in state 2 or 5, it would be taken for another's. Behind ESTABLISH_RESPONSE, also
+ *   of the same step, RELEASE_REQUEST gives up a connection, and is confirmed as ever.
  * - Nothing but sscf_fresh, sscf_step and sscf_burst writes into the table, and they only as their
  *   table. Each call is lent the whole of it, from the first record to the last, and no call, also
  *   one on another table, is given any octet of it as out or as refusals. A record that came there
  *   in another way is believed if it is well-formed, whatever it says.
- * - Q.2140 wants no link to enter proving during local congestion. On START_PROVING for a link
- *   that is congested, hand in CONGESTION for it (again): this gives the connection up, and the
- *   link tries again after T1.
+ * - It tells of each link when local congestion begins and when it is over, by CONGESTION and
+ *   CONGESTION_CEASED, in whatever state the link is, out of service too (in state 6 no link is
+ *   congested, and CONGESTION_CEASED is Illegal). The record keeps it, and the library does the
+ *   rest: nothing is to be handed in on START_PROVING. One CONGESTION_CEASED ends it, however often
+ *   and at whatever levels CONGESTION came, and no other event does: level 0 too makes the link
+ *   congested. Until then each connection with which the link would prove is given up.
  *
- * Where the stack is short: a step takes 152 octets and a burst 232, by the listing. glibc's
+ * Where the stack is short: a step takes 136 octets and a burst 216, by the listing. glibc's
  * memmove takes none, but where it is bound lazily its first call runs the dynamic loader, which
  * took 3 KB with 0.1.1, on a painted stack; memset can be bound so too.
  */
@@ -142,6 +158,31 @@ extern "C" {
 #endif
 
 /*
+ * WHAT A HOST OF AN EARLIER VERSION CHANGES
+ *
+ * 0.7.0 keeps in a link's record whether it is congested, and the last release field sent. What a
+ * host of 0.6.0 has to change:
+ *
+ * - A link record is 20 octets and its mark "LN", a table at most 5,120 octets; a step asks for
+ *   4,240 octets of output, and a burst that 4,240 are left of out before each event.
+ *   SSCF_LINK_OCTETS, SSCF_TABLE_OCTETS_MAX and SSCF_OUTPUT_OCTETS say so; look for a plain 16, for
+ *   4192, for a 4096 that means a table (a message is still at most 4,096), and for "LK". All that
+ *   calls the library is compiled again.
+ * - A table that an earlier version has written is not one of this. Release the connections, make
+ *   table and deadlines anew, and tell congestion that lasts. The old table's length (1), its mark
+ *   (6) or its number of links (5) refuses nearly every call, but nothing promises it: a table of
+ *   5, 10, ... links has a length that passes, and octets of it may read as a record.
+ * - The beginning and the end of congestion are told when they come, in every state (the end not in
+ *   6), see above. A host that told the end only of links in service now has links that stay
+ *   congested. Level 0 too makes a link congested: the end is told by CONGESTION_CEASED alone.
+ * - A host that tells both so need not hand CONGESTION in again on START_PROVING. Better take it
+ *   out: handed in behind the CONGESTION_CEASED of that congestion, it makes the link congested
+ *   anew.
+ * - RELEASE_REQUEST can stand behind ESTABLISH_RESPONSE in one step, and is then confirmed. Look
+ *   for what takes every RELEASE_REQUEST after ESTABLISH_INDICATION for a call turned down.
+ * - Timer orders can stand before other signals of a step, SET_T3 before RESET_T3 and START_PROVING
+ *   before STOP_PROVING: look for what stops at the first timer order, or does resets before sets.
+ *
  * 0.6.0 has the calls of DEADLINES, and nothing else is altered: a host of 0.5.0 has nothing to
  * change.
  *
@@ -157,34 +198,32 @@ extern "C" {
  *   SSCF_VERSION_NUMBER at the start shows a header and a library that are not of one version.
  *
  * All other numbers, 13 among them, and tables, events and signals are as in 0.4.0.
- *
- * Up to 0.2.0 a number of BSNT was kept through later connections too. A table that such a version
- * has written is taken as it is: there BSNT may be older than the latest connection, until the next
- * DATA is accepted or the next connection comes up.
  */
-#define SSCF_VERSION "0.6.0"
-#define SSCF_VERSION_NUMBER 6000 /* 1,000,000 x 0 + 1,000 x 6 + 0 */
+#define SSCF_VERSION "0.7.0"
+#define SSCF_VERSION_NUMBER 7000 /* 1,000,000 x 0 + 1,000 x 7 + 0 */
 
 /* LIMITS */
 
-#define SSCF_LINK_OCTETS 16            /* a link record */
+#define SSCF_LINK_OCTETS 20            /* a link record */
 #define SSCF_LINKS_MAX 256             /* links in a table; at least 1 */
-#define SSCF_TABLE_OCTETS_MAX 4096     /* a table, 256 x 16 */
+#define SSCF_TABLE_OCTETS_MAX 5120     /* a table, 256 x 20 */
 #define SSCF_HEAD_OCTETS 12            /* an event or a signal without its message */
 #define SSCF_MESSAGE_OCTETS_MAX 4096   /* the message of an event or a signal */
 #define SSCF_USER_MESSAGE_OCTETS_MIN 5 /* the peer takes four for a unit */
 #define SSCF_UNIT_OCTETS 4             /* an SSCF unit */
 #define SSCF_SIGNALS_MAX 8             /* signals from one event */
-#define SSCF_OUTPUT_OCTETS 4192        /* what a step asks for, 8 x 12 + 4,096; more is fine */
+#define SSCF_OUTPUT_OCTETS 4240        /* what a step asks for, 12 x 12 + 4,096; more is fine. It
+                                          is room for twelve signals and one message; a step
+                                          writes at most eight */
 #define SSCF_N1_DEFAULT 1000           /* proving units of normal proving, Q.2140's default */
 
 /*
  * LINK RECORD
  *
- * A table is its link records one behind the other, link 0 first; link n begins at octet 16 x n.
+ * A table is its link records one behind the other, link 0 first; link n begins at octet 20 x n.
  * Octets are counted from 0, and all numbers are big-endian, here and in every record.
  *
- *      0-1    "LK"
+ *      0-1    "LN"
  *      2      state, SSCF_STATE_...
  *      3      flags, a sum of SSCF_FLAG_...
  *      4      MPS, what management forces, SSCF_MPS_...
@@ -198,10 +237,19 @@ extern "C" {
  *      11     0
  *      12-13  C1, the proving units still to be sent
  *      14-15  n1, the proving units of normal proving, at least 1
+ *      16     1 if the link is congested, else 0: every CONGESTION that is accepted makes it 1,
+ *             whatever its level, and every CONGESTION_CEASED 0; no other event alters it
+ *      17     the last release field, SSCF_STATUS_...: that of the latest RELEASE_REQUEST, also of
+ *             one that turned a call down; 0 if there was none. It is for the host to read: no
+ *             event's signals or state depend on it; only the next RELEASE_REQUEST and sscf_fresh
+ *             alter it
+ *      18-19  0
  *
- * Anything else is ill-formed. Each field is looked at by itself: a C1 above n1, or a timer that
- * runs in state 1, is well-formed. A fresh record has its mark, state 1 and n1, and 0 in every
- * other octet.
+ * Anything else is ill-formed; octet 17 is 0 or any of the nine status codes. Each field is looked
+ * at by itself: a C1 above n1, a timer that runs in state 1, or a link congested in state 6, is
+ * well-formed. This last is never so where nothing but the calls has written into the table; made
+ * by hand, such a link proves on. A fresh record has its mark, state 1 and n1, and 0 in every other
+ * octet.
  */
 
 /* Out of service are both 1 and 2, in service is 8 alone. */
@@ -323,10 +371,11 @@ enum sscf_event {
      * with OOS, or PO during an outage. DATA of five octets or more is a message for the user, of
      * four a unit of the peer; shorter ones are dropped, and so are units of another status than NM
      * and INS, and whatever of four octets or fewer comes with RETRIEVE. RECOVER is answered and
-     * reported in states 7 and 8, UNITDATA is only reported. These are protocol errors, for which
-     * the connection is released (PE): ESTABLISH in states 3 and 4 with no field or one other than
-     * NM and EM; a message before service; an INS or NM unit in service; RESYNC; and RECOVER in
-     * state 6. */
+     * reported in states 7 and 8, UNITDATA is only reported. ESTABLISH in states 3 and 4 with NM or
+     * EM leads to state 6; on a congested link the same step goes on as CONGESTION does there, to
+     * state 5. These are protocol errors, for which the connection is released (PE): ESTABLISH in
+     * states 3 and 4 with no field or one other than NM and EM; a message before service; an INS or
+     * NM unit in service; RESYNC; and RECOVER in state 6. */
     SSCF_EVENT_ESTABLISH_INDICATION = 16,      /* field                           1.3..... */
     SSCF_EVENT_ESTABLISH_CONFIRM = 17,         /* field                           ...4.... */
     SSCF_EVENT_RELEASE_INDICATION = 18,        /* field; number: SSCF_SOURCE_...  ...4.678 */
@@ -340,10 +389,12 @@ enum sscf_event {
 
     /* From layer management. RELEASE takes the link out of service. OUTAGE does so in states 7 and
      * 8, and, while it lasts, to a link that ends proving. PROVING_UNSUCCESSFUL, and CONGESTION in
-     * state 6, give up the connection, and the link tries again. In states 7 and 8 CONGESTION and
-     * its end are told to the user and reported, its end is reported in state 5 and Illegal in 6,
-     * and else both do nothing. FORCE_PROVING sets MPS_NORMAL; a mode counts from the next
-     * connection that comes up on. */
+     * state 6, give up the connection, and the link tries again. From CONGESTION, of level 0 too,
+     * to CONGESTION_CEASED the link is congested. In states 7 and 8 both are told to the user and
+     * reported, the end is reported in state 5 and Illegal in 6, and else neither has a signal. So
+     * not every REPORT of CD has its CC: octet 16 of the record is what to go by.
+     * CONGESTION_CEASED is taken, and told, also where the link was not congested. FORCE_PROVING
+     * sets MPS_NORMAL; a mode counts from the next connection that comes up on. */
     SSCF_EVENT_PROVING_UNSUCCESSFUL = 32,      /*                                 .....6.. */
     SSCF_EVENT_RELEASE = 33,                   /*                                 12345678 */
     SSCF_EVENT_OUTAGE = 34,                    /* local processor outage          12345678 */
@@ -366,11 +417,21 @@ enum sscf_source { SSCF_SOURCE_USER = 0, SSCF_SOURCE_SSCOP = 1 };
 /*
  * SIGNALS
  *
- * They come in the order of Q.2140's Table 6, the timer orders last: resets before sets, T1 first.
- * All signals of a step are for the link of its event.
+ * They come in the order of Q.2140's Table 6, the timer orders last, but for the step below: resets
+ * before sets, T1 first. All signals of a step are for the link of its event. A step that goes on
+ * from ESTABLISH to what CONGESTION does writes all signals of the one, its timer orders too, and
+ * then those of the other:
+ *
+ *     ESTABLISH_RESPONSE, START_PROVING, RESET_T1, SET_T3,   of ESTABLISH_INDICATION, or
+ *     START_PROVING, SET_T3,                                 of ESTABLISH_CONFIRM, then
+ *     RELEASE_REQUEST with PNS, REPORT {LR,-,CD}, STOP_PROVING, RESET_T3
+ *
+ * which are eight signals by ESTABLISH_INDICATION, six by ESTABLISH_CONFIRM. No step writes more
+ * than eight.
  */
 enum sscf_signal {
-    /* To the user. */
+    /* To the user. A congestion that came in state 7 holds on past IN_SERVICE; a link that goes out
+     * of service gives no CONGESTION_CEASED for it. */
     SSCF_SIGNAL_RECEIVED_MESSAGE = 1,      /* message, 5 to 4,096 octets */
     SSCF_SIGNAL_LINK_CONGESTED = 2,        /* octet 5: the level, 0 to 3 */
     SSCF_SIGNAL_CONGESTION_CEASED = 3,
@@ -454,12 +515,14 @@ enum sscf_report_reason { /* octet 8 */
  * mended. After 6 the link is lost. A copy of its record brings it back if it was taken after the
  * last event that was accepted for the link; an older one may say in service of a connection that
  * is gone. Without one, release the connections and make the table anew. Of a table that something
- * else wrote into, what is proved of links in service no longer speaks, until the next sscf_fresh.
+ * else wrote into, what is proved of sequences of calls no longer speaks, until the next
+ * sscf_fresh.
  *
- * 7 and 8 can be its faults too, as when it starts a link twice, but they also come where there is
- * none, from events that crossed: one was on its way when another, or a signal, overtook it. Such
- * an event is dropped, and the link goes on. Q.2140 assumes of the boundary with SSCOP, and of no
- * other, that nothing crosses there (8.2 c, clause 12 item 3). Seen with this library:
+ * 7 and 8 can be its faults too, as when it starts a link twice, or has a congestion cease in state
+ * 6, where no link is congested. But they also come where there is none, from events that crossed:
+ * one was on its way when another, or a signal, overtook it. Such an event is dropped, and the link
+ * goes on. Q.2140 assumes of the boundary with SSCOP, and of no other, that nothing crosses there
+ * (8.2 c, clause 12 item 3). Seen with this library:
  *
  * - A timer's expiry, as the timer is reset (7): T1's as the peer connects, T2's as the link comes
  *   into service, T3's as the connection is given up.
@@ -476,14 +539,13 @@ enum sscf_report_reason { /* octet 8 */
  * - What the user asks before it has heard: MESSAGE_FOR_TRANSMISSION as the link leaves service,
  *   STOP as it does so or is given up by T2, EMERGENCY and EMERGENCY_CEASES as it comes into
  *   service. A message that is refused has not been sent, and is still the user's.
- * - PROVING_UNSUCCESSFUL from layer management, as proving ends, and CONGESTION_CEASED in state 6,
- *   where congestion ends just as the connection comes up.
+ * - PROVING_UNSUCCESSFUL from layer management, as proving ends.
  * - RETRIEVE and RETRIEVE_COMPLETE after the next START. These messages are lost to the user, which
  *   had better wait for RETRIEVAL_COMPLETE.
  */
 enum sscf_refusal {
     SSCF_ACCEPTED = 0,
-    SSCF_REFUSED_TABLE = 1,  /* table empty, not a multiple of 16 octets, or over 4,096 */
+    SSCF_REFUSED_TABLE = 1,  /* table empty, not a multiple of 20 octets, or over 5,120 */
     SSCF_REFUSED_FRAME = 2,  /* event under 12 octets, its mark not "EV", octet 9 not 0, length
                                 over 4,096 or not equal to the octets that follow */
     SSCF_REFUSED_CODE = 3,   /* unknown event code */
@@ -499,7 +561,7 @@ enum sscf_refusal {
     SSCF_REFUSED_RECORD = 6, /* that link's record ill-formed */
     SSCF_REFUSED_TIMER = 7,  /* expiry of a timer that is not marked running */
     SSCF_REFUSED_STATE = 8,  /* the event is Illegal in the link's state */
-    SSCF_REFUSED_OUTPUT = 9, /* output shorter than 4,192 octets, whatever the event would write */
+    SSCF_REFUSED_OUTPUT = 9, /* output shorter than 4,240 octets, whatever the event would write */
     SSCF_REFUSED_LIST = 13   /* of a burst as a whole: its list is too short */
 };
 
@@ -520,10 +582,11 @@ struct sscf_fresh_answer {
 };
 
 /*
- * Makes a fresh table: every record of the table_octets / 16 becomes out of service, with nothing
- * forced, no timer running and no BSNT, and n1 proving units for normal proving, 1 to 65,535. C
- * cuts a larger number before the call sees it: 65,537 arrives as 1. Links with another n1 want a
- * table of their own.
+ * Makes a fresh table: every record of the table_octets / 20 becomes out of service, with nothing
+ * forced, no timer running, no BSNT, not congested and no last release field, and with n1 proving
+ * units for normal proving, 1 to 65,535. C cuts a larger number before the call sees it: 65,537
+ * arrives as 1. Links with another n1 want a table of their own. Congestion that lasts is told
+ * again.
  *
  * Answers SSCF_ACCEPTED, or SSCF_REFUSED_TABLE, or else SSCF_REFUSED_RANGE at SSCF_PLACE_N1 if n1
  * is 0. A refusal leaves the table as it was.
@@ -840,7 +903,7 @@ struct sscf_changeover_answer sscf_changeover_read(const uint8_t *octets, size_t
  *   this one started anew, the host first moves every deadline that runs by what the two clocks
  *   differ, one that would fall below 0 to 0, and puts 0 in the place of the last time.
  *
- * A host of four links, with sscf_host.h. table, of 64 octets, and out are its own, and so are
+ * A host of four links, with sscf_host.h. table, of 80 octets, and out are its own, and so are
  * time_now, its clock in milliseconds, hand_on_signals, which leaves out the timer orders, fail,
  * and wait_until. This waits for a time, or with SSCF_NOT_RUNNING without end, and for what SSCOP,
  * the users and management have for the links: it steps that, with follow behind each step or

@@ -1,10 +1,11 @@
 /*
  * sscf_host.h: small help for a host of sscf.h, which is the manual.
  *
- * The places of a record's fields by name, a link's state, events written, signals taken one by
- * one, the next deadline, and every code as a string. All of it is inline, in C99 and in C++: there
- * is nothing to link, nothing is allocated or kept, and of the C library only memmove is called.
- * The library does not need it, and nothing here is part of what is proved.
+ * The places of a record's fields by name, a link's state, congestion and last field, events
+ * written, signals taken one by one, the next deadline, and every code as a string. All of it is
+ * inline, in C99 and in C++: there is nothing to link, nothing is allocated or kept, and of the C
+ * library only memmove is called. The library does not need it, and nothing here is part of what is
+ * proved.
  *
  *     uint8_t event[SSCF_HEAD_OCTETS];
  *     size_t octets = sscf_put_bare_event(event, sizeof event, 2, SSCF_EVENT_START);
@@ -32,7 +33,7 @@
 /* PLACES: where each field of a record begins, in octets from the record's own beginning. */
 
 enum sscf_link_at {
-    SSCF_LINK_AT_MARK = 0, /* "LK" */
+    SSCF_LINK_AT_MARK = 0, /* "LN" */
     SSCF_LINK_AT_STATE = 2,
     SSCF_LINK_AT_FLAGS = 3,
     SSCF_LINK_AT_MPS = 4,
@@ -42,7 +43,10 @@ enum sscf_link_at {
     SSCF_LINK_AT_BSNT = 8, /* three octets */
     SSCF_LINK_AT_ZERO = 11,
     SSCF_LINK_AT_C1 = 12,  /* two octets */
-    SSCF_LINK_AT_N1 = 14   /* two octets */
+    SSCF_LINK_AT_N1 = 14,  /* two octets */
+    SSCF_LINK_AT_CONGESTED = 16,
+    SSCF_LINK_AT_LAST_FIELD = 17,
+    SSCF_LINK_AT_ZEROS = 18 /* two octets */
 };
 
 enum sscf_head_at { /* of events and signals; the message is at SSCF_HEAD_OCTETS */
@@ -92,6 +96,21 @@ static inline void sscf_put_24(uint8_t *at, uint32_t value)
 static inline uint32_t sscf_link_state(const uint8_t *table, uint32_t link)
 {
     return table[SSCF_LINK_OCTETS * link + SSCF_LINK_AT_STATE];
+}
+
+/* The same of congestion, 1 if the link is congested and else 0. */
+static inline uint32_t sscf_link_congested(const uint8_t *table, uint32_t link)
+{
+    return table[SSCF_LINK_OCTETS * link + SSCF_LINK_AT_CONGESTED];
+}
+
+/*
+ * The same of the last release field, SSCF_STATUS_..., that of the latest RELEASE_REQUEST; 0 for
+ * none. sscf_status_name has no name for 0.
+ */
+static inline uint32_t sscf_link_last_field(const uint8_t *table, uint32_t link)
+{
+    return table[SSCF_LINK_OCTETS * link + SSCF_LINK_AT_LAST_FIELD];
 }
 
 /* EVENTS */
