@@ -154,7 +154,7 @@ ends : (l : tie.After-link) → 20 * K l + 20 ≤ length (T l)
 ends l = omega (arith, go l .1, inside (T l) (linkAt (E l)) (tk l .inside))
 
 part-rewrite-end : tie.Need-part-rewrite-end
-part-rewrite-end c = ends (c .before)
+part-rewrite-end c = omega (arith, ends (c .before))
 
 rewrite-requires : tie.Need-rewrite-requires
 rewrite-requires c κs =
