@@ -1,4 +1,5 @@
 // Q.2210's changeover messages with extended signals, XCO and XCA, written and read for C hosts: nine octets each.
+#![tactic(auto)]
 
 ghost use Rattle.std.specs.Prelude.{◌≡◌, ◌||◌, eqb, length, drop};
 ghost use Rattle.unit.specs.Checks.{first, number_of};

@@ -1,4 +1,5 @@
 // The event record of document 01: twelve octets and a message, read as an event.
+#![tactic(auto)]
 
 ghost use Rattle.std.specs.Prelude.{◌≡◌, cond, not, ◌||◌, ◌+◌, ◌≤◌, eqb, leb, length};
 ghost use Rattle.unit.specs.Checks.{first};

@@ -1,4 +1,5 @@
 // The keeper of deadlines for C hosts: for each link those of T1, T2 and T3 in a lent list. It follows the timer orders of the step and names what is due.
+#![tactic(auto)]
 
 ghost use Rattle.std.specs.Prelude.{◌≡◌, false, not, ◌+◌, ◌*◌, ◌%◌, ◌≤◌, length};
 ghost use Rattle.unit.specs.Checks.{first, number_of};

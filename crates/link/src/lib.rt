@@ -1,4 +1,6 @@
 // One link: an event and a link's record give the next record and the signals, as Table 6 says. By value, and on a record that is lent.
+#![tactic(auto)]
+
 ghost use Rattle.std.specs.Prelude.{◌≡◌, cond, ◌-◌, ◌≤◌, ◌<◌};
 ghost use Rattle.table6.specs.Summary.{over};
 ghost use Rattle.table6.specs.Stored.{bit_of, timers_after, flags_after, ups_after, sent_by, field_sent, last_op, word_count, SoundNumber};

@@ -1,4 +1,5 @@
 // Octets: two as a number, a mark before others, and octets written over others.
+#![tactic(auto)]
 
 ghost use Rattle.std.specs.Prelude.{◌≡◌, ◌&&◌, ◌+◌, ◌<◌, ◌≤◌, eqb, length};
 ghost use Rattle.octet.specs.Octets.{at, two, over, put_at};

@@ -1,4 +1,6 @@
 // The link record of 2026-07: twenty octets, and back.
+#![tactic(auto)]
+
 ghost use Rattle.std.specs.Prelude.{◌≡◌, true, ◌+◌, ◌*◌, ◌≤◌, length};
 ghost use Rattle.octet.specs.Octets.{at, bit};
 ghost use Rattle.link.specs.Signal.{num};

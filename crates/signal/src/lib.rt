@@ -1,4 +1,6 @@
 // The signal record of document 01: twelve octets and the message that goes with the signal, one record behind the other.
+#![tactic(auto)]
+
 mod report;
 
 ghost use Rattle.std.specs.Prelude.{◌≡◌, ◌++◌, ◌+◌, ◌*◌, ◌≤◌, length, drop, set};

@@ -1,4 +1,6 @@
 // The calls for C hosts: a fresh table, one event for one link of a table, a burst of events, and which version this is.
+#![tactic(auto)]
+
 mod burst;
 
 ghost use Rattle.std.specs.Prelude.{◌≡◌, ◌%◌, length};

@@ -1,5 +1,7 @@
 // One event for one link of a good table: what the single call and the burst have in common. It has two callers and stays a function of its own, so its code is in
 // the archive once; and it answers by one number, since one number comes back in a register (D88).
+#![tactic(auto)]
+
 mod checks;
 
 ghost use Rattle.std.specs.Prelude.{◌≡◌, false};

@@ -1,4 +1,6 @@
 // Table 6 of Q.2140: what the cell of an event and a state does, as a constant table with what its codes stand for.
+#![tactic(auto)]
+
 mod cells;
 pub mod effects;
 pub mod events;

@@ -1,5 +1,6 @@
 // Document 01's trace: a table and events from standard input, and on standard output what each event comes to. Only reading and writing are here: what an event does
 // comes from `sscf`, and what is written of it from `lines`.
+#![tactic(auto)]
 
 ghost use Rattle.std.specs.Prelude.{◌≡◌, ◌≤◌, length};
 

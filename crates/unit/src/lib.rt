@@ -1,4 +1,6 @@
 // Clause 10 of Q.2140 and its Tables 7 and 8: the four-octet units that two peers exchange, and how many of them prove a link.
+#![tactic(auto)]
+
 ghost use Rattle.std.specs.Prelude.{◌≡◌};
 ghost use Rattle.unit.specs.Unit.{none_or_status, code, decoded, unit_of, arrived};
 ghost use Rattle.unit.specs.Proving.{mps_code, ups_code, asked, table7, table8};
