@@ -30,7 +30,7 @@ const REFUSED_FIELD: u32 = 4;
 
 // A changeover message: sub-service field, service indicator, point codes of destination and origin, signalling link code, heading, number.
 #[repr(C)]
-#[derive(Drop)]
+#[derive(Clone, Copy)]
 pub struct Changeover {
     pub ssf: u8,
     pub si: u8,
@@ -43,7 +43,7 @@ pub struct Changeover {
 
 // What the reader answers: 0 or the refusal, and the message.
 #[repr(C)]
-#[derive(Drop)]
+#[derive(Clone, Copy)]
 pub struct Answer {
     pub refusal: u32,
     pub message: Changeover,

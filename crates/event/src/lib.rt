@@ -141,7 +141,7 @@ fn bad_field(field: u8) -> bool
 }
 
 // What is wrong with a field, with the place of its first octet.
-#[derive(Drop)]
+#[derive(Clone, Copy)]
 pub enum Fault {
     NotCarried(u8),
     OutOfRange(u8),
@@ -171,7 +171,7 @@ impl Fault {
 }
 
 // What octets are as an event record: one that fits its code, or the first of the checks 2, 3, 10, 11 and 12 that refuses them.
-#[derive(Drop)]
+#[derive(Clone, Copy)]
 pub enum Reading {
     BadFrame,
     UnknownCode,
@@ -304,7 +304,7 @@ fn field_by_field(e: &[u8]) -> Reading
 }
 
 // What a look by the code can tell: that there is none such, that all fits, or that the fields are to be looked at one by one.
-#[derive(Drop)]
+#[derive(Clone, Copy)]
 enum Look {
     Unknown,
     Fits,

@@ -3,7 +3,7 @@
 -- holds of a step. Only `table_ok` depends on what the table contains. Assumes nothing.
 use mathlib.Core.Path.{◌≡◌, refl}
 use mathlib.Core.Bool.{Bool, true, false, cond, not, ◌&&◌, ◌||◌, beq, false≢true}
-use mathlib.Core.List.{List, [], ◌∷◌, ◌++◌, append_nil}
+use mathlib.Core.List.{List, [], ◌∷◌, ◌++◌, append-nil}
 use mathlib.Core.Option.{Option, none, some}
 use Prim.Native.Nat.{ℕ, zero, suc}
 use lib.Dec.{eqb, leb}
@@ -264,7 +264,7 @@ possible MU>4 f h = refl
 
 of_cell : (t : List Act → State → Bool) (acts : List Act) (c : Cell) (f : Facts) → in_cell t f.ins acts c ≡ true → Holds t acts (chosen f c)
 of_cell t acts Illegal f h = tt
-of_cell t acts (to next) f h = rw append_nil h
+of_cell t acts (to next) f h = rw append-nil h
 of_cell t acts (a ⨟ c) f h = one_more t acts (tell a) (chosen f c) (of_cell t (acts ++ tell a ∷ []) c f h)
 of_cell t acts (a ⨾ c) f h = one_more t acts (alter a) (chosen f c) (of_cell t (acts ++ alter a ∷ []) c f h)
 of_cell t acts (IF q THEN c ELSE d) f h =

@@ -1,6 +1,6 @@
 -- What becomes of a list's length and numbers as orders are followed and a list is made fresh. Assumes nothing.
 use Prim.Native.Nat.{ℕ, suc, ◌+◌, ◌-◌, ◌*◌, ◌<◌}
-use native.Mathlib.Numerals.{add_one}
+use native.Mathlib.Numerals.{add-one}
 use native.Mathlib.Omega.{arith}
 use mathlib.Core.Path.{◌≡◌, refl, sym, ap, ◌∙◌}
 use mathlib.Core.List.{List, [], ◌∷◌, ◌++◌}
@@ -37,7 +37,7 @@ none_cleared d last h =
 pub one_cleared : (d : List ℕ) (last i : ℕ) → i < last → last < length d → set (cleared_from d last (i + 1)) i idle ≡ cleared_from d last i
 one_cleared d last i h g =
     let r = replicate (last - (i + 1)) idle ++ 0 ∷ [] in
-    ap (λ (k : ℕ). set (take k d ++ r) i idle) (add_one i)
+    ap (λ (k : ℕ). set (take k d ++ r) i idle) (add-one i)
     ∙ ap (λ (x : List ℕ). set (x ++ r) i idle) (take-suc d i 0 (omega arith))
     ∙ ap (λ (x : List ℕ). set x i idle) (append_snoc (take i d) (get_or d i 0) r)
     ∙ set_at (take i d) (get_or d i 0) r idle i (length-take-le i d (omega arith))

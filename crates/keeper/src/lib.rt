@@ -39,7 +39,7 @@ const REFUSED_DEADLINE: u32 = 5;
 
 // What is answered to the question what is due: 0 or the refusal, the code of the event to hand in, 0 where nothing is due, and its link.
 #[repr(C)]
-#[derive(Drop)]
+#[derive(Clone, Copy)]
 pub struct DueAnswer {
     pub refusal: u32,
     pub expired: u32,
@@ -202,7 +202,7 @@ fn bound(time: u64) -> u64
 }
 
 // A deadline, and its place among its link's three.
-#[derive(Drop)]
+#[derive(Clone, Copy)]
 struct Least {
     place: usize,
     deadline: u64,

@@ -3,7 +3,7 @@ use mathlib.Core.Path.{◌≡◌, refl, ap, subst, ◌∙◌}
 use mathlib.Core.Bool.{Bool, true, false, cond, ◌&&◌, true≢false}
 use mathlib.Core.List.{List, [], ◌∷◌, ◌++◌}
 use Prim.Native.Nat.{ℕ, zero, suc, ◌+◌, ◌-◌, ◌*◌, ◌/◌, ◌%◌, ◌≤◌, ◌<◌}
-use native.Mathlib.Numerals.{add_one}
+use native.Mathlib.Numerals.{add-one}
 use native.Mathlib.Omega.{arith}
 use lib.Dec.{eqb, ltb}
 use lib.ListN.{length, take, drop, get_or, set, length-append}
@@ -50,7 +50,7 @@ hexadecimal_append (a ∷ x) y = ap (λ (l : List ℕ). digit (a / 16) ∷ digit
 pub hexadecimal_next : (m : List ℕ) (i : ℕ) → i < length m →
     hexadecimal (take (i + 1) m) ≡ hexadecimal (take i m) ++ digit (get_or m i 0 / 16) ∷ digit (get_or m i 0 % 16) ∷ []
 unfolding hexadecimal
-hexadecimal_next m i h = ap (λ (j : ℕ). hexadecimal (take j m)) (add_one i) ∙ ap hexadecimal (take-suc m i 0 h) ∙ hexadecimal_append (take i m) (get_or m i 0 ∷ [])
+hexadecimal_next m i h = ap (λ (j : ℕ). hexadecimal (take j m)) (add-one i) ∙ ap hexadecimal (take-suc m i 0 h) ∙ hexadecimal_append (take i m) (get_or m i 0 ∷ [])
 
 pub hexadecimal_length : (m : List ℕ) → length (hexadecimal m) ≡ 2 * length m
 unfolding hexadecimal

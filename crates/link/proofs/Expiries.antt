@@ -4,7 +4,7 @@ use mathlib.Core.Bool.{Bool, true, false}
 use mathlib.Core.List.{List, [], ◌∷◌, ◌++◌}
 use Prim.Native.Nat.{ℕ, zero, suc, ◌+◌, ◌-◌, ◌≤◌}
 use native.Mathlib.Omega.{arith}
-use native.Mathlib.Numerals.{add_one}
+use native.Mathlib.Numerals.{add-one}
 use borrow.Author.Tests.{ne_eqb}
 use Rattle.unit.specs.declared.Status.{Status}
 use Rattle.unit.specs.Unit.{code}
@@ -72,7 +72,7 @@ ends_with_ins l p h =
     let n : ℕ = l.n1 in (
       e.0,
       e.1,
-      ap (λ (k : ℕ). expiries k l) (add_one n)
+      ap (λ (k : ℕ). expiries k l) (add-one n)
           ∙ ap next_expiry (proved_by_units l p n (omega arith))
           ∙ ap (λ (c : ℕ). joined (units n) (step_of (with_c1 c l) event.T3)) (nothing_left n)
           ∙ ap (λ (m : Link). joined (units n) (step_of (with_c1 0 m) event.T3)) (is_proving l p.state p.running)

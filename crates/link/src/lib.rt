@@ -14,7 +14,7 @@ use table6::{Facts, Met, State, effects, rows};
 use unit::{Arrived, Mps, Status, Ups};
 
 // A number of 24 bits, its highest octet first; or the three values of a REPORT.
-#[derive(Drop)]
+#[derive(Clone, Copy)]
 pub struct Num {
     pub a: u8,
     pub b: u8,
@@ -22,7 +22,7 @@ pub struct Num {
 }
 
 // The number of the latest data indication since the latest connection came up. Where none is known it is not retrievable, and 0.
-#[derive(Drop)]
+#[derive(Clone, Copy)]
 pub struct Bsnt {
     pub known: bool,
     pub num: Num,
@@ -30,7 +30,7 @@ pub struct Bsnt {
 
 // A link's record: state, the INS flag, LPO, MPS, UPS, the timers that run, BSNT, C1 and n1; whether the link is congested, and the field of the last release that
 // was sent, 0 before the first.
-#[derive(Drop)]
+#[derive(Clone, Copy)]
 pub struct Link {
     pub state: State,
     pub ins: bool,
@@ -72,7 +72,7 @@ pub fn fresh(n1: u16) -> Link
 }
 
 // An event with what it carries. Its message stays where it is.
-#[derive(Drop)]
+#[derive(Clone, Copy)]
 pub enum Event {
     Message,
     Emergency,
@@ -108,7 +108,7 @@ pub enum Event {
 }
 
 // The message that goes with a signal: none, a unit, or the event's own.
-#[derive(Drop)]
+#[derive(Clone, Copy)]
 pub enum Carries {
     Nothing,
     Unit(Status),
@@ -116,7 +116,7 @@ pub enum Carries {
 }
 
 // A signal, as the definitions have it. No code makes one: a step says words, and `signal` writes the octets of each.
-#[derive(Drop)]
+#[derive(Clone, Copy)]
 pub struct Signal {
     pub code: u8,
     pub param: u8,
@@ -129,7 +129,7 @@ const ZERO: Num = Num { a: 0, b: 0, c: 0 };
 // An event as Table 6 meets it: its row, and the parameter, the number, the source of a release and the length of a message that it brings. The number is there
 // for the definitions: BSNT takes it from the event, and a signal from the event's octets.
 // Read by these names; a tuple, so that `view_of` has a line an event (D63).
-#[derive(Drop)]
+#[derive(Clone, Copy)]
 pub struct View(pub u8, pub u8, pub Num, pub u8, pub u16);
 
 fn data_row(a: Arrived) -> u8
@@ -550,7 +550,7 @@ fn noted(e: Event) -> u8
 // What is answered of an event: that it is illegal; or the words of its signals, as effects.rt of table6 has them, and how many they are, what is noted, and which
 // field of a release was sent. What the signals carry is taken where they are written, from the event's octets and from the record that is left: no cell alters
 // what its signals take.
-#[derive(Drop)]
+#[derive(Clone, Copy)]
 pub enum Reply {
     Illegal,
     Legal {
@@ -562,14 +562,14 @@ pub enum Reply {
 }
 
 // A record after an event, and what is answered.
-#[derive(Drop)]
+#[derive(Clone, Copy)]
 pub struct Turn {
     pub link: Link,
     pub reply: Reply,
 }
 
 // A record before its cell, and what is noted so far.
-#[derive(Drop)]
+#[derive(Clone, Copy)]
 struct Begun {
     link: Link,
     noted: u8,

@@ -1,9 +1,9 @@
 -- Laws of octets written over others. Assumes nothing.
 use mathlib.Core.Path.{◌≡◌, refl, sym, ap, ◌∙◌}
-use mathlib.Core.List.{List, [], ◌∷◌, ◌++◌, append_assoc, append_nil}
+use mathlib.Core.List.{List, [], ◌∷◌, ◌++◌, append_assoc, append-nil}
 use Prim.Native.Nat.{ℕ, suc, ◌+◌, ◌-◌, ◌≤◌, ◌<◌}
 use native.Mathlib.Nat.{zero-add, suc-add}
-use native.Mathlib.Numerals.{add_one}
+use native.Mathlib.Numerals.{add-one}
 use native.Mathlib.Omega.{arith}
 use lib.ListN.{length, take, drop, get_or, set, length-set, length-append, length-take, length-drop, drop_of_length-le, take-append-drop}
 use lib.Seq.{length-take-le, take_all, take-suc, drop-cons, append_snoc, set_at, set-append_left, take-length, take-append_seam, drop-append_seam, take-append-le}
@@ -16,7 +16,7 @@ copied s d i hs hd =
     ap (λ (r : List ℕ). set (take i s ++ r) i (get_or s i 0)) (drop-cons d i 0 hd)
     ∙ set_at (take i s) (get_or d i 0) (drop (suc i) d) (get_or s i 0) i (length-take-le i s (omega arith))
     ∙ sym (append_snoc (take i s) (get_or s i 0) (drop (suc i) d))
-    ∙ rw (add_one, ← take-suc s i 0 hs)
+    ∙ rw (add-one, ← take-suc s i 0 hs)
 
 pub all_copied : (s d : List ℕ) (i : ℕ) → i ≡ length s → take i s ++ drop i d ≡ over s d
 unfolding over
@@ -29,7 +29,7 @@ length_over s d h = simp (length-append, length-drop) (omega arith)
 -- a part from a to the end that was lent comes back
 back : (d y : List ℕ) (a : ℕ) → take a d ++ (y ++ drop (length d - a) (drop a d)) ≡ take a d ++ y
 back d y a =
-    ap (λ (r : List ℕ). take a d ++ r) (ap (λ (r : List ℕ). y ++ r) (drop_of_length-le (drop a d) {i = length d - a} (simp length-drop (omega arith))) ∙ append_nil y)
+    ap (λ (r : List ℕ). take a d ++ r) (ap (λ (r : List ℕ). y ++ r) (drop_of_length-le (drop a d) {i = length d - a} (simp length-drop (omega arith))) ∙ append-nil y)
 
 -- the same where s was written over its front
 pub lent : (d y s : List ℕ) (a : ℕ) → y ≡ over s (take (length d - a) (drop a d)) → take a d ++ (y ++ drop (length d - a) (drop a d)) ≡ put_at d a s
@@ -83,7 +83,7 @@ over_front s d = take-append_seam s (drop (length s) d)
 -- nothing is left of what is no longer
 pub over_whole : (s d : List ℕ) → length d ≤ length s → over s d ≡ s
 unfolding over
-over_whole s d h = ap (λ (r : List ℕ). s ++ r) (drop_of_length-le d h) ∙ append_nil s
+over_whole s d h = ap (λ (r : List ℕ). s ++ r) (drop_of_length-le d h) ∙ append-nil s
 
 pub over_rest : (s d : List ℕ) → drop (length s) (over s d) ≡ drop (length s) d
 unfolding over

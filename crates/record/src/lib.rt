@@ -54,13 +54,13 @@ fn state_code(s: State) -> u8
 }
 
 // What an octet is as a state, or as MPS: one of them, or none. Decoded and tested at once.
-#[derive(Drop)]
+#[derive(Clone, Copy)]
 enum SomeState {
     None,
     Of(State),
 }
 
-#[derive(Drop)]
+#[derive(Clone, Copy)]
 enum SomeMps {
     None,
     Of(Mps),
@@ -200,7 +200,7 @@ fn unpack(r: &[u8], state: State, mps: Mps) -> Link
 }
 
 // What octets are as a link's record: a link, or ill-formed.
-#[derive(Drop)]
+#[derive(Clone, Copy)]
 pub enum Slot {
     IllFormed,
     Holds(Link),

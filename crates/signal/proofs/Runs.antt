@@ -2,7 +2,7 @@
 use mathlib.Core.Path.{◌≡◌, refl, sym, ap, subst, ◌∙◌}
 use mathlib.Core.Bool.{Bool, true, false}
 use mathlib.Core.Logic.{inl, inr}
-use mathlib.Core.List.{List, [], ◌++◌, map, append_assoc, append_nil}
+use mathlib.Core.List.{List, [], ◌++◌, map, append_assoc, append-nil}
 use Prim.Native.Nat.{ℕ, zero, suc, ◌+◌, ◌-◌, ◌*◌, ◌/◌, ◌%◌, ◌≤◌, ◌<◌}
 use native.Mathlib.Omega.{arith}
 use lib.Dec.{ltb}
@@ -24,7 +24,7 @@ use Rattle.signal.proofs.SignalRecord.{fixed_known, last_word, fronted, signal_l
 -- ONE MORE at the end of a run
 
 known_next : (front : List ℕ) (i rest : ℕ) → known front (suc i) rest ≡ known front i rest ++ (front ++ fixed_at (after i rest % 256))
-known_next front zero rest = append_nil (front ++ fixed_at (rest % 256))
+known_next front zero rest = append-nil (front ++ fixed_at (rest % 256))
 known_next front (suc i) rest =
     let s = front ++ fixed_at (rest % 256) in
     ap (λ (l : List ℕ). s ++ l) (known_next front i (rest / 256)) ∙ sym (append_assoc s (known front i (rest / 256)) (front ++ fixed_at (after i (rest / 256) % 256)))

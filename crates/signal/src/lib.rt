@@ -221,7 +221,7 @@ fn put_other(out: &mut [u8], front: [u8; 4], w: u64, left: &[u8], e: &[u8]) -> u
 }
 
 // How far the writer is: the octets that are written, the words that are left, the lowest next, and how many they are.
-#[derive(Drop)]
+#[derive(Clone, Copy)]
 struct Run {
     at: usize,
     rest: u64,

@@ -2,7 +2,7 @@
 use mathlib.Core.Path.{◌≡◌, refl, sym, ap, subst, ◌∙◌}
 use mathlib.Core.Bool.{Bool, true, false, cond, not, ◌||◌, true≢false}
 use mathlib.Core.Logic.{◌⊎◌, inl, inr, ⊎_elim}
-use mathlib.Core.List.{List, [], ◌∷◌, ◌++◌, append_assoc, append_nil, append_cancel_left}
+use mathlib.Core.List.{List, [], ◌∷◌, ◌++◌, append_assoc, append-nil, append_cancel_left}
 use Prim.Native.Nat.{ℕ, zero, suc, ◌+◌, ◌-◌, ◌*◌, ◌≤◌, ◌<◌}
 use native.Mathlib.Omega.{arith}
 use lib.Dec.{eqb, leb, ltb}
@@ -197,8 +197,8 @@ one_event t e o l n good f room =
     let c = step_call t e o in
     let fs = only_frame e f in
     let s : singly (frames e) t o ≡ single t e o ∷ [] = ap (λ (x : List (List ℕ)). singly x t o) fs ∙ one_more [] t e o room in
-    let a = append_nil e in
-    let w = append_nil (written c) in
+    let a = append-nil e in
+    let w = append-nil (written c) in
     let k : length (written c ++ []) ≡ c.answer.octets = ap length w ∙ written_length t e o in
     let b : broken_at (drop (length (e ++ [])) e) ≡ 0 = ap (λ (x : List ℕ). broken_at (drop (length x) e)) a ∙ ap broken_at (drop-length e) in
     let m : c.answer.signals + 0 ≡ c.answer.signals = omega arith in
@@ -389,7 +389,7 @@ AsWithout a c =
 pub broken_stands : BrokenStands
 broken_stands t es others o l ev b = by (first (burst_checks t es l)) refl where
   same_frames : frames (es ++ others) ≡ frames es
-  same_frames = frames_two t es others o l ev ∙ ap (λ (fs : List (List ℕ)). frames es ++ fs) (no_frame others b) ∙ append_nil (frames es)
+  same_frames = frames_two t es others o l ev ∙ ap (λ (fs : List (List ℕ)). frames es ++ fs) (no_frame others b) ∙ append-nil (frames es)
 
   same_verdict : first (burst_checks t (es ++ others) l) ≡ first (burst_checks t es l)
   same_verdict = rw same_frames

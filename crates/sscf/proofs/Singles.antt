@@ -1,7 +1,7 @@
 -- A burst's single calls: how one more is added to those that are done. Assumes nothing.
 use mathlib.Core.Path.{◌≡◌, refl, sym, ap, ◌∙◌}
 use mathlib.Core.Bool.{Bool, true, false, cond, or-true}
-use mathlib.Core.List.{List, [], ◌∷◌, ◌++◌, append_assoc, append_nil}
+use mathlib.Core.List.{List, [], ◌∷◌, ◌++◌, append_assoc, append-nil}
 use Prim.Native.Nat.{ℕ, zero, suc, ◌+◌, ◌-◌, ◌*◌, ◌≤◌, ◌<◌}
 use native.Mathlib.Omega.{arith}
 use lib.Dec.{eqb, ltb}
@@ -223,7 +223,7 @@ pub ends : {t₀ es o₀ l₀ t o l : List ℕ} {n at put count : ℕ} (r : Reac
     b ≡ broken_at (drop at es) → bursting (burst_answered 0 b n at put count) t o l ≡ came (singly (frames es) t₀ o₀) t₀ es o₀ l₀
 ends {t₀} {es} {o₀} {l₀} {t} {o} {l} {n} {at} {put} {count} r b none e =
     let d = r.done in
-    let w : singly (frames es) t₀ o₀ ≡ d = r.whole ∙ ap (λ (s : List Single). d ++ s) none ∙ append_nil d in
+    let w : singly (frames es) t₀ o₀ ≡ d = r.whole ∙ ap (λ (s : List Single). d ++ s) none ∙ append-nil d in
     (λ i. bursting (burst_answered 0 (e i) (r.taken_is i) (r.at_is i) (r.put_is i) (r.count_is i)) (r.table_is i) (r.out_is i) (r.list_is i))
     ∙ (λ i. bursting (burst_answered 0 (broken_at (drop (r.at_is i) es)) (length d) (length (events_of d)) (length (written_by d)) (signals_by d)) (table_after t₀ d) (over (written_by d) o₀) (over (numbers_of d) l₀))
     ∙ ap (λ (s : List Single). came s t₀ es o₀ l₀) (sym w)
@@ -298,7 +298,7 @@ module _ {t₀ es o₀ l₀ t o l : List ℕ} {n at put count : ℕ} (r : Reache
     octets_long = written_length t (front (drop at es)) (drop put o) ∙ ap (λ (b : Answer). b.octets) (sym answer_is)
 
     written_is : written_by done' ≡ written_by r.done ++ written C
-    written_is = written_and r.done (S ∷ []) ∙ ap (λ (w : List ℕ). written_by r.done ++ w) (append_nil (written C))
+    written_is = written_and r.done (S ∷ []) ∙ ap (λ (w : List ℕ). written_by r.done ++ w) (append-nil (written C))
 
     put_is' : put + a.octets ≡ length (written_by done')
     put_is' = omega (arith, r.put_is, octets_long, length-append (written_by r.done) (written C), ap length written_is)

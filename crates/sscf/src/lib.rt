@@ -47,7 +47,7 @@ pub extern "C" fn sscf_step(table: &mut [u8], event: &[u8], out: &mut [u8]) -> A
 // What a burst answers: 0 or the refusal; 2 if a broken frame ended it, else 0; the events that got a number, the octets of the events up to where it stopped, the
 // octets written and the signals counted.
 #[repr(C)]
-#[derive(Drop)]
+#[derive(Clone, Copy)]
 pub struct BurstAnswer {
     pub refusal: u32,
     pub broken: u32,
@@ -103,7 +103,7 @@ fn fill(table: &mut [u8], r: &[u8])
 
 // What the fresh-table maker answers: 0 or the refusal, and its place.
 #[repr(C)]
-#[derive(Drop)]
+#[derive(Clone, Copy)]
 pub struct FreshAnswer {
     pub refusal: u32,
     pub place: u32,

@@ -34,7 +34,7 @@ fn idle(l: Link, code: u8) -> bool
 }
 
 // What the checks come to: a refusal, or the link, its record after the event, the words of its signals and how many they are, and what is noted of the step.
-#[derive(Drop)]
+#[derive(Clone, Copy)]
 pub enum Plan {
     Refused(Refusal),
     Go {

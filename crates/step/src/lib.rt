@@ -14,7 +14,7 @@ use event::Fault;
 use record::RECORD;
 use signal::put_all;
 
-#[derive(Drop)]
+#[derive(Clone, Copy)]
 pub enum Refusal {
     Table,
     Frame,
@@ -82,7 +82,7 @@ pub fn bad_table(t: &[u8]) -> bool
 
 // What the step answers: 0 or the refusal, the octets written, the signals counted, and the refusal's place.
 #[repr(C)]
-#[derive(Drop)]
+#[derive(Clone, Copy)]
 pub struct Answer {
     pub refusal: u32,
     pub octets: u32,

@@ -1,7 +1,7 @@
 -- The tests over the whole table, computed, and the law that turns such a test into what holds of a choice. Assumes nothing.
 use mathlib.Core.Path.{◌≡◌, refl}
 use mathlib.Core.Bool.{Bool, true, false, cond, ◌&&◌, and-eq-true_iff}
-use mathlib.Core.List.{List, [], ◌∷◌, ◌++◌, append_assoc, append_nil}
+use mathlib.Core.List.{List, [], ◌∷◌, ◌++◌, append_assoc, append-nil}
 use Prim.Native.Nat.{ℕ, zero, suc}
 use lib.ListN.{get_or}
 use Rattle.table6.specs.declared.State.{State}
@@ -79,7 +79,7 @@ either t acts false x y p q = q
 
 of_cell : (t : List Act → State → Bool) (acts : List Act) (c : Cell) (f : Facts) → in_cell t acts c ≡ true → Holds t acts (chosen f c)
 of_cell t acts Illegal f h = tt
-of_cell t acts (to next) f h = rw append_nil h
+of_cell t acts (to next) f h = rw append-nil h
 of_cell t acts (a ⨟ c) f h = one_more t acts (tell a) (chosen f c) (of_cell t (acts ++ tell a ∷ []) c f h)
 of_cell t acts (a ⨾ c) f h = one_more t acts (alter a) (chosen f c) (of_cell t (acts ++ alter a ∷ []) c f h)
 of_cell t acts (IF q THEN c ELSE d) f h =

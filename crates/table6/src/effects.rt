@@ -547,7 +547,7 @@ fn ended(f: Facts) -> u16
 }
 
 // The code of an alternative, which is a code and at most 2, and whether a connection comes up with it.
-#[derive(Drop)]
+#[derive(Clone, Copy)]
 struct Alternative(u16, bool);
 
 // Of the codes that ask for BSNT, for LPO alone, or for a message's length.

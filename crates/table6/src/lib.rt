@@ -11,7 +11,7 @@ ghost use Rattle.std.specs.Prelude.{◌≡◌};
 ghost use Rattle.table6.specs.Stored.{met_as, met, goes_on, Sound, state_after};
 
 // The states of Q.2140: S2103 is 2/10/3, and so on, in the order of document 01's codes.
-#[derive(Drop)]
+#[derive(Clone, Copy)]
 pub enum State {
     S111,
     S141,
@@ -24,7 +24,7 @@ pub enum State {
 }
 
 // What the conditions of a cell ask.
-#[derive(Drop)]
+#[derive(Clone, Copy)]
 pub struct Facts {
     // LPO is 1.
     pub lpo: bool,
@@ -41,7 +41,7 @@ pub struct Facts {
 }
 
 // What an event meets.
-#[derive(Drop)]
+#[derive(Clone, Copy)]
 pub enum Met {
     Illegal,
     // What it does to the link, as a number of effects.rt, the words of its signals, and whether a connection comes up.

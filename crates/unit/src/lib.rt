@@ -25,7 +25,7 @@ pub const PE: u8 = 9;
 pub const PNS: u8 = 10;
 
 // What a peer says of itself in a unit.
-#[derive(Drop)]
+#[derive(Clone, Copy)]
 pub enum Status {
     OOS,
     PO,
@@ -58,7 +58,7 @@ impl Status {
 }
 
 // A status field that was received: one of the nine, or a code that clause 10 doesn't have.
-#[derive(Drop)]
+#[derive(Clone, Copy)]
 pub enum Field {
     Named(Status),
     Unnamed,
@@ -103,7 +103,7 @@ pub fn write(status: Status) -> [u8; 4]
 }
 
 // What a message from the peer is: the proving unit, the INS unit, another unit with its status field, or no unit, being too short or too long.
-#[derive(Drop)]
+#[derive(Clone, Copy)]
 pub enum Arrived {
     NM,
     INS,
@@ -133,7 +133,7 @@ pub fn read(message: &[u8]) -> Arrived
 }
 
 // Management_Proving_Status: what layer management forces.
-#[derive(Drop)]
+#[derive(Clone, Copy)]
 pub enum Mps {
     Neutral,
     Normal,
@@ -153,7 +153,7 @@ impl Mps {
 }
 
 // User_Proving_Status: what the user wishes.
-#[derive(Drop)]
+#[derive(Clone, Copy)]
 pub enum Ups {
     Normal,
     Emergency,

@@ -1,6 +1,6 @@
 -- `bad_periods` meets its contract: those looked at are in range, so that the rest decides. Assumes nothing.
 use Prim.Native.Nat.{ℕ, ◌+◌, ◌-◌, ◌≤◌, ◌<◌}
-use native.Mathlib.Numerals.{add_one}
+use native.Mathlib.Numerals.{add-one}
 use native.Mathlib.Omega.{arith}
 use mathlib.Core.Path.{◌≡◌, refl, sym, ap, ◌∙◌}
 use mathlib.Core.Bool.{Bool, true, false, ◌||◌}
@@ -21,7 +21,7 @@ decreases-loop periods i₀ i = length periods - i
 
 -- the next one
 one : (p : List ℕ) (i : ℕ) → i < length p → bad_periods (drop i p) ≡ (ltb (get_or p i 0) 1 || ltb 60000 (get_or p i 0) || bad_periods (drop (i + 1) p))
-one p i h = ap bad_periods (drop-cons p i 0 h ∙ ap (λ (k : ℕ). get_or p i 0 ∷ drop k p) (sym (add_one i)))
+one p i h = ap bad_periods (drop-cons p i 0 h ∙ ap (λ (k : ℕ). get_or p i 0 ∷ drop k p) (sym (add-one i)))
 
 bad_one : (p : List ℕ) (i : ℕ) → i < length p → bad_periods p ≡ bad_periods (drop i p) → (ltb (get_or p i 0) 1 || ltb 60000 (get_or p i 0)) ≡ true → true ≡ bad_periods p
 bad_one p i h e b = sym (e ∙ one p i h ∙ ap (λ (x : Bool). x || bad_periods (drop (i + 1) p)) b)

@@ -3,7 +3,7 @@ use borrow.Author.Rules.{rules}
 use native.Mathlib.Omega.{arith}
 use mathlib.Core.Path.{◌≡◌, refl, sym, ap, subst, ◌∙◌}
 use mathlib.Core.Logic.{inl, inr}
-use mathlib.Core.List.{List, [], ◌++◌, append_nil}
+use mathlib.Core.List.{List, [], ◌++◌, append-nil}
 use Prim.Native.Nat.{ℕ, suc, ◌+◌, ◌-◌, ◌*◌, ◌/◌, ◌%◌, ◌≤◌}
 use lib.ListN.{length, take, drop, length-append, length-take, length-drop}
 use Rattle.table6.specs.Stored.{word_at}
@@ -127,7 +127,7 @@ returns : tie.Need-returns
 unfolding put_at
 returns c =
     let k = c.before in
-    let e : joined (L k) (M k) (signals_of (N k) (W k) (O k)) ≡ K k = parts k ∙ ap (λ (l : List ℕ). K k ++ l) (nothing (O k) (L k) (M k) (R k).left (R k).rest c.if1.true) ∙ append_nil (K k) in
+    let e : joined (L k) (M k) (signals_of (N k) (W k) (O k)) ≡ K k = parts k ∙ ap (λ (l : List ℕ). K k ++ l) (nothing (O k) (L k) (M k) (R k).left (R k).rest c.if1.true) ∙ append-nil (K k) in
     record {
       answer = omega (arith, (ran k).at, long k, ap length e);
       written = (ran k).written ∙ ap (λ (l : List ℕ). over l (D k)) (sym e);
@@ -222,7 +222,7 @@ returns-2 c =
     let x = known (front_of (E k)) t.told (r.rest / 256) in
     let e : Z q ≡ x =
     split (O k) (E k) (M k) (omega (arith, octet_3 k)) (r.left - 1) t.told last.left (r.rest / 256) t.all t.words
-    ∙ ap (λ (l : List ℕ). x ++ l) (nothing (O k) (L k) (M k) last.left _ z) ∙ append_nil x in
+    ∙ ap (λ (l : List ℕ). x ++ l) (nothing (O k) (L k) (M k) last.left _ z) ∙ append-nil x in
     let p = c.before.before.before.before.before.before.before.before.put_other.ensures in
     rw (parts k ∙ ap (λ (l : List ℕ). K k ++ l) (next q ∙ ap (λ (l : List ℕ). Y q ++ l) e))
     (three (K k) (Y q) x (ran k).written (omega (arith, (ran k).at, long k)) (lent (Out k) y (Y q) r.at p.written) (omega (arith, p.answer)) t.written (omega (arith, t.at, known_length (front_of (E k)) t.told (r.rest / 256) refl t.words)))
