@@ -6,7 +6,7 @@ use crate::{State, rows};
 
 // Codes of what a cell does: the event, and document 01's code of the state where it does one thing here and another there. What an event does in
 // whatever state it is accepted is no part of it.
-pub const _____: u8 = 0; // Illegal
+pub const ILLEG: u8 = 0; // Illegal
 
 pub const MESSG: u8 = 1; // MESSAGE_FOR_TRANSMISSION
 
@@ -137,41 +137,41 @@ pub const T3RDY: u8 = 62; // both are 0
 const TABLE_6: [[u8; 8]; 35] = [
     // 1      2      3      4      5      6      7      8
     // 1/1/1  1/4/1  2/1/2  2/2/2  2/4/2  2/10/3 2/10/4 3/10/5
-    [_____, _____, _____, _____, _____, _____, _____, MESSG], // AAL-MESSAGE_FOR_TRANSMISSION-request
-    [ALONE, ALONE, ALONE, ALONE, ALONE, ALONE, ALONE, _____], // AAL-EMERGENCY-request
-    [ALONE, ALONE, ALONE, ALONE, ALONE, ALONE, ALONE, _____], // AAL-EMERGENCY_CEASES-request
-    [_____, _____, STOP3, STOP4, STOP5, STOP6, STOP7, STOP8], // AAL-STOP-request
-    [START, START, _____, _____, _____, _____, _____, _____], // AAL-START-request
-    [BSNT_, BSNT_, _____, _____, _____, _____, _____, _____], // AAL-RETRIEVE_BSNT-request
-    [FSNC_, FSNC_, _____, _____, _____, _____, _____, _____], // AAL-RETRIEVAL_REQUEST_AND_FSNC-request
+    [ILLEG, ILLEG, ILLEG, ILLEG, ILLEG, ILLEG, ILLEG, MESSG], // AAL-MESSAGE_FOR_TRANSMISSION-request
+    [ALONE, ALONE, ALONE, ALONE, ALONE, ALONE, ALONE, ILLEG], // AAL-EMERGENCY-request
+    [ALONE, ALONE, ALONE, ALONE, ALONE, ALONE, ALONE, ILLEG], // AAL-EMERGENCY_CEASES-request
+    [ILLEG, ILLEG, STOP3, STOP4, STOP5, STOP6, STOP7, STOP8], // AAL-STOP-request
+    [START, START, ILLEG, ILLEG, ILLEG, ILLEG, ILLEG, ILLEG], // AAL-START-request
+    [BSNT_, BSNT_, ILLEG, ILLEG, ILLEG, ILLEG, ILLEG, ILLEG], // AAL-RETRIEVE_BSNT-request
+    [FSNC_, FSNC_, ILLEG, ILLEG, ILLEG, ILLEG, ILLEG, ILLEG], // AAL-RETRIEVAL_REQUEST_AND_FSNC-request
     [ALONE, ALONE, ALONE, ALONE, ALONE, ALONE, ALONE, ALONE], // AAL-FLUSH_BUFFERS-request
     [ALONE, ALONE, ALONE, ALONE, ALONE, ALONE, ALONE, ALONE], // AAL-CONTINUE-request
-    [EIND1, _____, EIND3, _____, _____, _____, _____, _____], // AA-ESTABLISH-indication
-    [_____, _____, _____, ECNF4, _____, _____, _____, _____], // AA-ESTABLISH-confirm
-    [_____, _____, _____, RIND_, _____, RIND6, RIND_, RIND8], // AA-RELEASE-indication
-    [_____, RCNF2, _____, _____, RCNF5, _____, _____, _____], // AA-RELEASE-confirm
-    [_____, _____, _____, _____, _____, INS_6, INS_7, PERR8], // AA-DATA-indication, INS unit
-    [_____, _____, _____, _____, _____, ALONE, ALONE, PERR8], // AA-DATA-indication, NM unit
-    [_____, _____, _____, _____, _____, ALONE, ALONE, ALONE], // AA-DATA-indication, other unit or short
-    [_____, _____, _____, _____, _____, PERR6, LONG7, LONG8], // AA-DATA-indication, long message
-    [_____, _____, _____, _____, _____, PERR6, RSYN7, PERR8], // AA-RESYNC-indication
-    [_____, _____, _____, _____, _____, PERR6, RECOV, RECOV], // AA-RECOVER-indication
+    [EIND1, ILLEG, EIND3, ILLEG, ILLEG, ILLEG, ILLEG, ILLEG], // AA-ESTABLISH-indication
+    [ILLEG, ILLEG, ILLEG, ECNF4, ILLEG, ILLEG, ILLEG, ILLEG], // AA-ESTABLISH-confirm
+    [ILLEG, ILLEG, ILLEG, RIND_, ILLEG, RIND6, RIND_, RIND8], // AA-RELEASE-indication
+    [ILLEG, RCNF2, ILLEG, ILLEG, RCNF5, ILLEG, ILLEG, ILLEG], // AA-RELEASE-confirm
+    [ILLEG, ILLEG, ILLEG, ILLEG, ILLEG, INS_6, INS_7, PERR8], // AA-DATA-indication, INS unit
+    [ILLEG, ILLEG, ILLEG, ILLEG, ILLEG, ALONE, ALONE, PERR8], // AA-DATA-indication, NM unit
+    [ILLEG, ILLEG, ILLEG, ILLEG, ILLEG, ALONE, ALONE, ALONE], // AA-DATA-indication, other unit or short
+    [ILLEG, ILLEG, ILLEG, ILLEG, ILLEG, PERR6, LONG7, LONG8], // AA-DATA-indication, long message
+    [ILLEG, ILLEG, ILLEG, ILLEG, ILLEG, PERR6, RSYN7, PERR8], // AA-RESYNC-indication
+    [ILLEG, ILLEG, ILLEG, ILLEG, ILLEG, PERR6, RECOV, RECOV], // AA-RECOVER-indication
     [UDATA, UDATA, UDATA, UDATA, UDATA, UDATA, UDATA, UDATA], // AA-UNITDATA-indication
-    [RETRV, RETRV, _____, _____, _____, _____, _____, _____], // AA-RETRIEVE-indication
-    [RCOMP, RCOMP, _____, _____, _____, _____, _____, _____], // AA-RETRIEVE_COMPLETE-indication
-    [_____, _____, _____, _____, _____, PFAIL, _____, _____], // MAAL-PROVING_UNSUCCESSFUL-response
+    [RETRV, RETRV, ILLEG, ILLEG, ILLEG, ILLEG, ILLEG, ILLEG], // AA-RETRIEVE-indication
+    [RCOMP, RCOMP, ILLEG, ILLEG, ILLEG, ILLEG, ILLEG, ILLEG], // AA-RETRIEVE_COMPLETE-indication
+    [ILLEG, ILLEG, ILLEG, ILLEG, ILLEG, PFAIL, ILLEG, ILLEG], // MAAL-PROVING_UNSUCCESSFUL-response
     [ALONE, ALONE, MREL3, MREL4, MREL5, MREL6, MREL4, MREL8], // MAAL-RELEASE-request
     [OUTG_, OUTG_, OUTG_, OUTG_, OUTG_, OUTG_, OUTG7, OUTG8], // MAAL-LOCAL_PROCESSOR_OUTAGE-request
-    [RCVRD, RCVRD, RCVRD, RCVRD, RCVRD, RCVRD, _____, _____], // MAAL-LOCAL_PROCESSOR_RECOVERED-request
+    [RCVRD, RCVRD, RCVRD, RCVRD, RCVRD, RCVRD, ILLEG, ILLEG], // MAAL-LOCAL_PROCESSOR_RECOVERED-request
     [ALONE, ALONE, ALONE, ALONE, ALONE, ALONE, ALONE, ALONE], // MAAL-FORCE_PROVING-request
     [ALONE, ALONE, ALONE, ALONE, ALONE, ALONE, ALONE, ALONE], // MAAL-FORCE_EMERGENCY-request
     [ALONE, ALONE, ALONE, ALONE, ALONE, ALONE, ALONE, ALONE], // MAAL-CLEAR_FORCE_MODES-request
     [ALONE, ALONE, ALONE, ALONE, ALONE, CONG6, CONG_, CONG_], // Local Congestion
-    [ALONE, ALONE, ALONE, ALONE, CEAS5, _____, CEAS_, CEAS_], // Local Congestion Ceased
-    [_____, _____, T1EX3, _____, _____, _____, _____, _____], // T1 expires
-    [_____, _____, T2EX3, T2EX4, T2EX5, T2EX6, T2EX7, _____], // T2 expires
-    [_____, _____, _____, _____, _____, T3PRV, _____, _____], // T3 expires and C1 > 0
-    [_____, _____, _____, _____, _____, T3END, _____, _____], // T3 expires and C1 = 0
+    [ALONE, ALONE, ALONE, ALONE, CEAS5, ILLEG, CEAS_, CEAS_], // Local Congestion Ceased
+    [ILLEG, ILLEG, T1EX3, ILLEG, ILLEG, ILLEG, ILLEG, ILLEG], // T1 expires
+    [ILLEG, ILLEG, T2EX3, T2EX4, T2EX5, T2EX6, T2EX7, ILLEG], // T2 expires
+    [ILLEG, ILLEG, ILLEG, ILLEG, ILLEG, T3PRV, ILLEG, ILLEG], // T3 expires and C1 > 0
+    [ILLEG, ILLEG, ILLEG, ILLEG, ILLEG, T3END, ILLEG, ILLEG], // T3 expires and C1 = 0
 ];
 
 pub fn column(s: State) -> usize
@@ -247,7 +247,7 @@ fn row_of(row: u8) -> [u8; 8]
         rows::T2_EXPIRES => table[32],
         rows::T3_EXPIRES => table[33],
         rows::T3_EXPIRES_C1_0 => table[34],
-        _ => [_____; 8],
+        _ => [ILLEG; 8],
     }
 }
 

@@ -458,7 +458,7 @@ fn number(code: u8) -> u64
     ensures { result ≡ number_at code }
 {
     match code {
-        cells::_____ => 0,
+        cells::ILLEG => 0,
         cells::MESSG => MESSG,
         cells::STOP3 => STOP3,
         cells::STOP4 => STOP4,
@@ -597,7 +597,7 @@ fn gone_on(code: u8) -> Met
 }
 
 // Whether it does: the link is congested, which it seldom is, and the peer's field is EM or NM.
-fn goes_on_lem(code: u8, f: Facts, congested: bool) -> bool
+fn goes_on(code: u8, f: Facts, congested: bool) -> bool
     ensures { result ≡ (congested && (f.uu && leading code)) }
 {
     if congested {
@@ -610,10 +610,10 @@ fn goes_on_lem(code: u8, f: Facts, congested: bool) -> bool
 pub(crate) fn does(code: u8, f: Facts, congested: bool) -> Met
     ensures { result ≡ met_of code f congested }
 {
-    if code == cells::_____ {
+    if code == cells::ILLEG {
         return Met::Illegal;
     }
-    if goes_on_lem(code, f, congested) {
+    if goes_on(code, f, congested) {
         return gone_on(code);
     }
     let Alternative(c, up) = chosen(code, f);
