@@ -64,7 +64,7 @@ last_wins x (put y) u = refl
 
 ups_wished : (x : Ups) {up : Bool} (n p : ℕ) (num : Num) (l : Link) → up ≡ false → Behind (with_ups (put x) still) up n p num l
 ups_wished x n p num l e =
-    rw e (ap (λ (u : Ups). effect.with-ups u (summed_up (changed still false n) 0 none (summed_up (with_ups (put x) still) p num l))) (last_wins x (ups_op n) l.ups))
+    rw e (ap (λ (u : Ups). effect.with_ups u (summed_up (changed still false n) 0 none (summed_up (with_ups (put x) still) p num l))) (last_wins x (ups_op n) l.ups))
 
 -- WHAT A CELL DECIDES
 
