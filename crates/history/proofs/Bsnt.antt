@@ -202,7 +202,7 @@ remembered : Invariant Remembered
 remembered =
     record {
       begins = λ n1. record { inv = keeps_inv.begins n1; bsnt_is = at_first };
-      goes_on_lem = λ n1 l h v e p.
+      goes_on = λ n1 l h v e p.
           together n1 h e (step_of l (event_of e)) (keeps_inv.goes_on n1 l h v.inv e p)
           (by_test remembers table_remembers (Keeps BsntIs n1 h e) l (event_of e) tt (remembered_so n1 l h v.inv v.bsnt_is e (sorted e p l.c1)));
     }

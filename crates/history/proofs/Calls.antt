@@ -82,7 +82,7 @@ module _ (I : ℕ → Link → List Mark → Type 0) where
   -- a fresh link has it, and every event that is taken keeps it
   pub record Invariant : Type 0 where
     pub begins : (n1 : ℕ) → I n1 (fresh_link n1) []
-    pub goes_on_lem : (n1 : ℕ) (l : Link) (h : List Mark) → I n1 l h → (e : List ℕ) → Passed e → Keeps n1 h e (machine.step_of l (event_of e))
+    pub goes_on : (n1 : ℕ) (l : Link) (h : List Mark) → I n1 l h → (e : List ℕ) → Passed e → Keeps n1 h e (machine.step_of l (event_of e))
 
   -- a record is that of a link of which it holds
   pub record Kept (n1 : ℕ) (r : List ℕ) (h : List Mark) : Type 0 where

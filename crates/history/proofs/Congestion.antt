@@ -249,7 +249,7 @@ so_kept : Invariant Inv
 so_kept =
     record {
       begins = λ n1. record { flag_is = refl; last_is = refl; proving = refl; proper = refl };
-      goes_on_lem = λ n1 l h v e p.
+      goes_on = λ n1 l h v e p.
           let x = view_of (event_of e) l.c1 in
           let o = given_by x.1 x.2 l in
           let free = (view h).free in
@@ -260,13 +260,13 @@ so_kept =
 
 -- THE RECORD
 module _ (w : World) (k : ℕ) (v : Kept Inv w.n1 (record_at w.table k) (history w k)) where
-  flag_octet : flag_octet w k ≡ bit (view (history w k)).flag
+  flag_octet_lem : flag_octet w k ≡ bit (view (history w k)).flag
   unfolding octets_of
-  flag_octet = ap (λ (r : List ℕ). at r 16) v.octets ∙ ap bit (sym v.inv.flag_is)
+  flag_octet_lem = ap (λ (r : List ℕ). at r 16) v.octets ∙ ap bit (sym v.inv.flag_is)
 
-  last_octet : last_octet w k ≡ last_sent (history w k)
+  last_octet_lem : last_octet w k ≡ last_sent (history w k)
   unfolding octets_of
-  last_octet = ap (λ (r : List ℕ). at r 17) v.octets ∙ sym v.inv.last_is
+  last_octet_lem = ap (λ (r : List ℕ). at r 17) v.octets ∙ sym v.inv.last_is
 
   state_octet : at (record_at w.table k) 2 ≡ state_code v.link.state
   unfolding octets_of
@@ -294,16 +294,16 @@ pub congested_flag : CongestedFlag
 congested_flag =
     record {
       set = after_each_call Inv so_kept (λ w k. (flag_octet w k ≡ 1) ↔ Congested (history w k))
-          (λ w k v. let h = history w k in rw (flag_octet w k v) (bit_set (view h).flag (congested h) (flagged h)));
+          (λ w k v. let h = history w k in rw (flag_octet_lem w k v) (bit_set (view h).flag (congested h) (flagged h)));
       clear = after_each_call Inv so_kept (λ w k. (flag_octet w k ≡ 0) ↔ (Congested (history w k) → ⊥))
-          (λ w k v. let h = history w k in rw (flag_octet w k v) (bit_clear (view h).flag (congested h) (flagged h)));
+          (λ w k v. let h = history w k in rw (flag_octet_lem w k v) (bit_clear (view h).flag (congested h) (flagged h)));
     }
 
 pub last_field : LastField
 last_field =
     record {
-      sent = after_each_call Inv so_kept (λ w k. (r : LatestRelease (history w k)) → last_octet w k ≡ field_of r.request.mark) (λ w k v r. last_octet w k v ∙ latest_field (history w k) r);
-      unsent = after_each_call Inv so_kept (λ w k. none release_sent (history w k) ≡ true → last_octet w k ≡ 0) (λ w k v n. last_octet w k v ∙ no_field (history w k) n);
+      sent = after_each_call Inv so_kept (λ w k. (r : LatestRelease (history w k)) → last_octet w k ≡ field_of r.request.mark) (λ w k v r. last_octet_lem w k v ∙ latest_field (history w k) r);
+      unsent = after_each_call Inv so_kept (λ w k. none release_sent (history w k) ≡ true → last_octet w k ≡ 0) (λ w k v n. last_octet_lem w k v ∙ no_field (history w k) n);
     }
 
 -- in 2/10/3 the flag is clear
@@ -320,7 +320,7 @@ clear_there State.S3105 flag free t e = absurd (omega arith)
 pub never_in_proving : NeverInProving
 never_in_proving =
     after_each_call Inv so_kept (λ w k. at (record_at w.table k) 2 ≡ state_code 2/10/3 → flag_octet w k ≡ 0)
-    (λ w k v e. flag_octet w k v ∙ ap bit (v.inv.flag_is ∙ clear_there v.link.state v.link.congested (view (history w k)).free v.inv.proving (sym (state_octet w k v) ∙ e)))
+    (λ w k v e. flag_octet_lem w k v ∙ ap bit (v.inv.flag_is ∙ clear_there v.link.state v.link.congested (view (history w k)).free v.inv.proving (sym (state_octet w k v) ∙ e)))
 
 pub note_7 : Note7
 note_7 =

@@ -230,5 +230,5 @@ pub keeps_inv : Invariant Inv
 keeps_inv =
     record {
       begins = fresh_ok;
-      goes_on_lem = λ n1 l h v e p. by_test leads table_ok (Keeps Inv n1 h e) l (event_of e) tt (led_so n1 l h v e (view_of (event_of e) l.c1) (sorted e p l.c1));
+      goes_on = λ n1 l h v e p. by_test leads table_ok (Keeps Inv n1 h e) l (event_of e) tt (led_so n1 l h v e (view_of (event_of e) l.c1) (sorted e p l.c1));
     }

@@ -56,7 +56,7 @@ so_kept n1 h e Illegal t = tt
 so_kept n1 h e (Legal l said) t = t
 
 timed_always : Invariant TimedIn
-timed_always = record { begins = λ n1. record { t1 = refl; t2 = refl }; goes_on_lem = λ n1 l h v e p. so_kept n1 h e (step_of l (event_of e)) (of_step l v (event_of e)) }
+timed_always = record { begins = λ n1. record { t1 = refl; t2 = refl }; goes_on = λ n1 l h v e p. so_kept n1 h e (step_of l (event_of e)) (of_step l v (event_of e)) }
 
 pub timed_each : AfterEachCall (λ w k. Timed (link_in w k))
 timed_each = after_each_call TimedIn timed_always (λ w k. Timed (link_in w k)) (λ w k v. subst Timed (sym (ap link_of v.octets ∙ unpacked v.link)) v.inv)

@@ -1,4 +1,4 @@
--- `table6::effects::goes_on_lem` meets its contract. Assumes nothing.
+-- `table6::effects::goes_on` meets its contract. Assumes nothing.
 use mathlib.Core.Path.{refl}
 use borrow.Author.Rules.{rules}
 use Rattle.table6.proofs.effects.goes_on.Statement.{statement}
