@@ -65,6 +65,7 @@ pub enum Field {
 }
 
 // Reads a status field.
+#[tactic(auto, unfolding(crate::specs::Unit::decoded))]
 pub fn decode(field: u8) -> Field
     ensures { result ≡ decoded field }
 {
@@ -96,6 +97,7 @@ pub fn none_or_status(field: u8) -> bool
 }
 
 // Writes a unit.
+#[tactic(auto, unfolding(crate::specs::Unit::unit_of))]
 pub fn write(status: Status) -> [u8; 4]
     ensures { result ≡ unit_of status }
 {
@@ -173,6 +175,7 @@ impl Ups {
 // Table 7, by MPS, UPS and what the peer asks for: 1 where n1 proving units are sent, 0 where none is.
 const TABLE_7: [u8; 12] = [1, 0, 0, 0, 1, 1, 1, 1, 0, 0, 0, 0];
 
+#[tactic(auto, unfolding(crate::specs::Proving::asked))]
 fn asks(field: u8) -> Ups
     ensures { result ≡ asked field }
 {
@@ -192,6 +195,7 @@ pub fn generate_n1(mps: Mps, ups: Ups, field: u8, n1: u16) -> u16
 }
 
 // The field that goes to the peer with an AA-ESTABLISH-request or -response.
+#[tactic(auto, unfolding(crate::specs::Proving::table8))]
 pub fn sscop_uu(mps: Mps, ups: Ups) -> Status
     ensures { result ≡ table8 mps ups }
 {

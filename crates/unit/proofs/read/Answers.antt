@@ -1,18 +1,11 @@
 -- `unit::read` meets its contract: the definition goes by the message's octets, the code by its length. Assumes nothing.
-use borrow.Author.Rules.{rules}
+use Rattle.std.proofs.Common.{◌≡◌, ℕ, ◌<◌, ◌≤◌, cond, List, [], ◌∷◌, length, get_or, refl, ◌∙◌, arith}
 use borrow.Author.Tests.{lt-ltb, le-ltb, eq-eqb, ne_eqb}
-use native.Mathlib.Omega.{arith}
-use mathlib.Core.Path.{◌≡◌, refl, ◌∙◌}
-use mathlib.Core.Bool.{cond}
-use mathlib.Core.List.{List, [], ◌∷◌}
-use Prim.Native.Nat.{ℕ, ◌<◌, ◌≤◌}
 use lib.Dec.{ltb}
-use lib.ListN.{length, get_or}
 use Rattle.unit.specs.declared.Arrived.{Arrived}
 use Rattle.unit.specs.declared.Status.{Status}
 use Rattle.unit.specs.Unit.{code, arrived, kind}
-use Rattle.unit.proofs.read.Statement.{statement}
-use Rattle.unit.proofs.read.Tie as tie
+use Rattle.unit.proofs.read.Goals as goal
 
 by_length : (m : List ℕ) →
     arrived m ≡ cond (ltb (length m) 4) Arrived.Short (cond (ltb 4 (length m)) Arrived.Long (kind (get_or m 3 0)))
@@ -48,29 +41,17 @@ is_other : (s : ℕ) → (s ≡ code Status.NM → ⊥) → (s ≡ code Status.I
 unfolding kind
 is_other s n e = rw (ne_eqb s (code Status.NM) n, ne_eqb s (code Status.INS) e) refl
 
-returns : tie.Need-returns
-returns c = long c.before.args.message.now c.if1.true
+pub returns-then-message-gt4 : goal.returns-then-message-gt4
+returns-then-message-gt4 c = long _ c.if-message-gt4.true
 
-returns-2 : tie.Need-returns-2
-returns-2 c = short c.before.before.args.message.now c.if2.true
+pub returns-then-message-lt4 : goal.returns-then-message-lt4
+returns-then-message-lt4 c = short _ c.if-message-lt4.true
 
-shared-slice-read-status : tie.Need-shared-slice-read-status
-shared-slice-read-status c = search rules
+pub returns-then-status-eq-NM : goal.returns-then-status-eq-NM
+returns-then-status-eq-NM c = is_nm_lem _ c.if-status-eq-NM.true ∙ four _ c.if-message-gt4.false c.if-message-lt4.false
 
-returns-3 : tie.Need-returns-3
-returns-3 c =
-    let m = c.before.before.before.before.args.message.now in
-    is_nm_lem (get_or m 3 0) c.if3.true ∙ four m c.before.before.before.if1.false c.before.before.if2.false
+pub returns-then-status-eq-INS : goal.returns-then-status-eq-INS
+returns-then-status-eq-INS c = is_ins_lem _ c.if-status-eq-NM.false c.if-status-eq-INS.true ∙ four _ c.if-message-gt4.false c.if-message-lt4.false
 
-returns-4 : tie.Need-returns-4
-returns-4 c =
-    let m = c.before.before.before.before.before.args.message.now in
-    is_ins_lem (get_or m 3 0) c.before.if3.false c.if4.true ∙ four m c.before.before.before.before.if1.false c.before.before.before.if2.false
-
-returns-5 : tie.Need-returns-5
-returns-5 c =
-    let m = c.before.before.before.before.before.args.message.now in
-    is_other (get_or m 3 0) c.before.if3.false c.if4.false ∙ four m c.before.before.before.before.if1.false c.before.before.before.if2.false
-
-pub read_spec : {M : Type 1} → statement M
-read_spec = tie.close (tie.spec returns returns-2 shared-slice-read-status returns-3 returns-4 returns-5)
+pub returns : goal.returns
+returns c = is_other _ c.if-status-eq-NM.false c.if-status-eq-INS.false ∙ four _ c.if-message-gt4.false c.if-message-lt4.false
