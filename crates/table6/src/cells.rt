@@ -207,6 +207,7 @@ pub fn state_at(column: u8) -> State
 
 // The only place that reads the table. It is read at constant indices, so that it costs nothing: the compiler keeps of it the row of each arm. At an index
 // that varies it would be built on the stack at each read.
+#[tactic(auto, unfolding(crate::specs::Stored::row_of))]
 fn row_of(row: u8) -> [u8; 8]
     ensures { result ≡ row_of row }
 {
@@ -252,6 +253,7 @@ fn row_of(row: u8) -> [u8; 8]
 }
 
 // The code of a cell.
+#[tactic(auto, unfolding(crate::specs::Stored::code_at))]
 pub fn code_at(row: u8, s: State) -> u8
     ensures { result ≡ code_at row s }
 {

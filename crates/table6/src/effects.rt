@@ -454,6 +454,7 @@ const INDICATED_WORDS: u64 = EIND3 / FIRST + CONG6 / FIRST * 4294967296;
 const NO_CELL: u64 = 15 * SAYS;
 
 // The number of a code, which is below 64. All arms are constants: the compiler makes a table of it, with no jump, and since all 64 are there no test.
+#[tactic(auto, unfolding(crate::specs::Stored::number_at))]
 fn number(code: u8) -> u64
     ensures { result ≡ number_at code }
 {
@@ -565,6 +566,7 @@ fn seldom(code: u8, f: Facts) -> Alternative
 
 // What the facts choose of a code's alternatives. The codes are told apart by ranges of more than one each: a code that is known by itself the compiler
 // would follow through the table of numbers, and make a jump of it.
+#[tactic(auto, unfolding(crate::specs::Stored::ask_at))]
 fn chosen(code: u8, f: Facts) -> Alternative
     ensures { result ≡ picked f (ask_at code) }
 {
@@ -607,6 +609,7 @@ fn goes_on(code: u8, f: Facts, congested: bool) -> bool
 }
 
 // What a code does to the link, and its signals, where the cell asks a condition by what the facts say.
+#[tactic(auto, unfolding(crate::specs::Stored::met_of))]
 pub(crate) fn does(code: u8, f: Facts, congested: bool) -> Met
     ensures { result ≡ met_of code f congested }
 {

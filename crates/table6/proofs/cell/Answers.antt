@@ -1,5 +1,4 @@
 -- `table6::cell` meets its contract: the code that it goes by does what Table 6 says, and its number's masks do what it means. Assumes nothing.
-use borrow.Author.Rules.{rules}
 use mathlib.Core.Path.{◌≡◌, subst, sym}
 use mathlib.Core.Bool.{Bool, true, false, cond, ◌&&◌}
 use native.Mathlib.Omega.{arith}
@@ -12,8 +11,7 @@ use Rattle.table6.specs.declared.effects.Alternative.{Alternative}
 use Rattle.table6.specs.Stored.{code_at, confirmed, confirmed_words, indicated, indicated_words, ask_at, picked, done_by, leading, gone_on, met_of, met_as, met, goes_on, Sound}
 use Rattle.table6.proofs.Stored.{at_each_link}
 use Rattle.table6.proofs.Masks.{sound_number, sound_confirmed, sound_indicated}
-use Rattle.table6.proofs.cell.Statement.{statement}
-use Rattle.table6.proofs.cell.Tie as tie
+use Rattle.table6.proofs.cell.Goals as goal
 
 by_code : (p : Alternative) → Sound (done_by p)
 by_code p = sound_number (p.0 % 64) (omega arith)
@@ -36,16 +34,5 @@ sound c f b = by (eqb c 0) where
 reached : (row : ℕ) (s : State) (f : Facts) (b : Bool) {c : ℕ} {r : Met} → c ≡ code_at row s → r ≡ met_of c f b → (met_as row s r ≡ goes_on b s (met row s f)) × Sound r
 reached row s f b {c = c} p q = (rw (q, p) (at_each_link row s f b), subst Sound (sym q) (sound c f b))
 
-code-at-requires : tie.Need-code-at-requires
-code-at-requires c κs = search rules
-
-does-requires : tie.Need-does-requires
-does-requires c κs = search rules
-
-returns : tie.Need-returns
-returns c =
-    let a = c.before.before.args in
-    reached a.row a.state a.facts a.congested c.before.code-at.ensures c.does.ensures
-
-pub cell_spec : {M : Type 1} → statement M
-cell_spec = tie.close (tie.spec code-at-requires does-requires returns)
+pub returns : goal.returns
+returns c = reached c.args.row c.args.state c.args.facts c.args.congested c.code_at.ensures c.does.ensures
