@@ -158,8 +158,7 @@ fn refused(refusal: u32) -> Answer
 }
 
 // Writes a message.
-#[unsafe(no_mangle)]
-pub extern "C" fn sscf_changeover_write(out: &mut [u8], message: Changeover) -> u32
+pub fn sscf_changeover_write(out: &mut [u8], message: Changeover) -> u32
     ensures { writing result out.new ≡ write_call out.old message }
 {
     if out.len() != MESSAGE {
@@ -174,8 +173,7 @@ pub extern "C" fn sscf_changeover_write(out: &mut [u8], message: Changeover) -> 
 }
 
 // Reads nine octets.
-#[unsafe(no_mangle)]
-pub extern "C" fn sscf_changeover_read(octets: &[u8]) -> Answer
+pub fn sscf_changeover_read(octets: &[u8]) -> Answer
     ensures { result ≡ read_call octets.now }
 {
     if octets.len() != MESSAGE {

@@ -39,6 +39,7 @@ fn framed(e: &[u8]) -> bool
 }
 
 // Of events end to end: the octets of the one at the front, by its own length, and 0 if its frame is broken.
+#[tactic(auto, using(crate::proofs::EndToEnd::broken))]
 pub fn front(es: &[u8]) -> usize
     ensures { result ≡ cond (sound es.now) (head_octets + length_at es.now) 0 }
 {
@@ -76,6 +77,7 @@ fn number(e: &[u8]) -> Num
 }
 
 // The event that a record with a known code holds. Each arm reads what it carries: what is read before the match is held through all of the step.
+#[tactic(auto, unfolding(crate::specs::EventRecord::coded_at))]
 pub fn event(e: &[u8]) -> Event
     requires { head_octets ≤ length e.now }
     ensures { result ≡ event_of e.now }
@@ -220,6 +222,7 @@ fn has_field(code: u8) -> bool
 }
 
 // Of each field: whether it is set with a code that does not carry it.
+#[tactic(auto, using(crate::proofs::Fields::parameter_not_carried))]
 fn parameter_not_carried(e: &[u8]) -> bool
     requires { head_octets ≤ length e.now }
     ensures { result ≡ not_carried (code_at e.now) (parameter_field (param_at e.now)) }
@@ -239,6 +242,7 @@ fn number_not_carried(e: &[u8]) -> bool
         & numbered(e)
 }
 
+#[tactic(auto, using(crate::proofs::Fields::length_not_carried))]
 fn length_not_carried(e: &[u8]) -> bool
     requires { (head_octets ≤ length e.now) × (head_octets + length_at e.now ≡ length e.now) }
     ensures { result ≡ not_carried (code_at e.now) (length_field (length_at e.now)) }
@@ -270,6 +274,7 @@ fn number_out_of_range(e: &[u8]) -> bool
     (e[4] == events::RELEASE_INDICATION) & !source
 }
 
+#[tactic(auto, using(crate::proofs::Fields::length_out_of_range))]
 fn length_out_of_range(e: &[u8]) -> bool
     requires { (head_octets ≤ length e.now) × (head_octets + length_at e.now ≡ length e.now) }
     ensures { result ≡ out_of_range (code_at e.now) (length_field (length_at e.now)) }
@@ -335,6 +340,7 @@ fn established(e: &[u8]) -> Look
 }
 
 // The codes, and of each in one test whether all fits: so that nothing else is asked, and nothing held meanwhile (D92). Of releases those by SSCOP are left.
+#[tactic(auto, unfolding(crate::specs::EventRecord::coded_at, crate::specs::Fields::not_carried, crate::specs::Fields::out_of_range))]
 fn at_once(e: &[u8]) -> Look
     requires { (head_octets ≤ length e.now) × (head_octets + length_at e.now ≡ length e.now) }
     ensures { Seen e.now result }
@@ -376,6 +382,7 @@ fn at_once(e: &[u8]) -> Look
 }
 
 // Checks 3, 10, 11 and 12 of a sound frame.
+#[tactic(auto, using(crate::proofs::EventRecord::fields_unknown, crate::proofs::EventRecord::fields_known))]
 fn checked(e: &[u8]) -> Reading
     requires { (head_octets ≤ length e.now) × (head_octets + length_at e.now ≡ length e.now) }
     ensures { reading result ≡ fields_of e.now }
@@ -387,6 +394,7 @@ fn checked(e: &[u8]) -> Reading
     }
 }
 
+#[tactic(auto, using(crate::proofs::Frame::sound), unfolding(crate::specs::EventRecord::reading_of))]
 pub fn read_event(e: &[u8]) -> Reading
     ensures { reading result ≡ reading_of e.now }
 {

@@ -157,8 +157,7 @@ fn follow(deadlines: &mut [u64], link: usize, code: u8, t3: u64, time: u64)
 }
 
 // A set or a reset order for a link, at a time.
-#[unsafe(no_mangle)]
-pub extern "C" fn sscf_deadlines_order(
+pub fn sscf_deadlines_order(
     deadlines: &mut [u64],
     periods: &[u64],
     link: u16,
@@ -252,8 +251,7 @@ fn first_below(deadlines: &[u64], end: usize, bound: u64) -> usize
 }
 
 // Names the earliest timer that is due at a time, and marks it not running.
-#[unsafe(no_mangle)]
-pub extern "C" fn sscf_deadlines_due(deadlines: &mut [u64], periods: &[u64], time: u64) -> DueAnswer
+pub fn sscf_deadlines_due(deadlines: &mut [u64], periods: &[u64], time: u64) -> DueAnswer
     ensures { DueCall deadlines.old periods.now time result deadlines.new }
 {
     let refusal = due_checked(&deadlines[..], periods, time);
@@ -284,8 +282,7 @@ pub extern "C" fn sscf_deadlines_due(deadlines: &mut [u64], periods: &[u64], tim
 }
 
 // A list in which no timer runs, with a last time of 0.
-#[unsafe(no_mangle)]
-pub extern "C" fn sscf_deadlines_fresh(deadlines: &mut [u64]) -> u32
+pub fn sscf_deadlines_fresh(deadlines: &mut [u64]) -> u32
     ensures { keeping result deadlines.new ≡ fresh_call deadlines.old }
 {
     if bad_lists(deadlines.len(), deadlines.len() / TIMERS) {

@@ -28,8 +28,7 @@ fn refused(r: Refusal) -> Answer
 }
 
 // One event for one link.
-#[unsafe(no_mangle)]
-pub extern "C" fn sscf_step(table: &mut [u8], event: &[u8], out: &mut [u8]) -> Answer
+pub fn sscf_step(table: &mut [u8], event: &[u8], out: &mut [u8]) -> Answer
     ensures { answering result table.new out.new ≡ step_call table.old event.now out.old }
 {
     if bad_table(&table[..]) {
@@ -71,8 +70,7 @@ fn burst_refused(r: Refusal) -> BurstAnswer
 }
 
 // Events end to end, as their single calls one after the other.
-#[unsafe(no_mangle)]
-pub extern "C" fn sscf_burst(
+pub fn sscf_burst(
     table: &mut [u8],
     events: &[u8],
     out: &mut [u8],
@@ -122,8 +120,7 @@ fn fresh_refused(r: Refusal) -> FreshAnswer
 const N1: u8 = 14;
 
 // A table of fresh links, with n1 proving units each.
-#[unsafe(no_mangle)]
-pub extern "C" fn sscf_fresh(table: &mut [u8], n1: u16) -> FreshAnswer
+pub fn sscf_fresh(table: &mut [u8], n1: u16) -> FreshAnswer
     ensures { making result table.new ≡ fresh_call table.old n1 }
 {
     if bad_table(&table[..]) {
@@ -141,8 +138,7 @@ pub extern "C" fn sscf_fresh(table: &mut [u8], n1: u16) -> FreshAnswer
 }
 
 // The version, 0.7.0.
-#[unsafe(no_mangle)]
-pub extern "C" fn sscf_version() -> u32
+pub fn sscf_version() -> u32
     ensures { result ≡ version }
 {
     7000
