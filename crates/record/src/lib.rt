@@ -114,6 +114,7 @@ pub fn ups_at(code: u8) -> Ups
 }
 
 // The twenty octets of a link's record.
+#[tactic(auto, unfolding(crate::specs::LinkRecord::octets_of))]
 pub fn pack(l: Link) -> [u8; 20]
     ensures { result ≡ octets_of l }
 {
@@ -171,6 +172,7 @@ fn rest_formed(r: &[u8]) -> bool
         && (wide(r[19], r[18]) == 0)
 }
 
+#[tactic(auto, unfolding(crate::specs::LinkRecord::link_of))]
 fn unpack(r: &[u8], state: State, mps: Mps) -> Link
     requires { (length r.now ≡ 20) × (state ≡ state_at (at r.now 2)) × (mps ≡ mps_at (at r.now 4)) }
     ensures { result ≡ link_of r.now }
@@ -206,6 +208,7 @@ pub enum Slot {
     Holds(Link),
 }
 
+#[tactic(auto, unfolding(crate::specs::LinkRecord::slot_of))]
 pub fn read_link(r: &[u8]) -> Slot
     ensures { found result ≡ slot_of r.now }
 {
