@@ -7,7 +7,7 @@
 ##                   for some minutes, where the archive is older than a crate;
 ##                   DESTDIR goes before both, for packages
 ## make uninstall    takes them away again
-## make clean        removes target/, all that was made
+## make clean        removes target/ and each crate's out/, all that was made
 ## make help         these lines
 .POSIX:
 .PHONY: all help setup library archive look example install uninstall bench test clean
@@ -24,10 +24,11 @@ help:
 setup:
 	.ci/setup
 
-# Proves every crate, writes each library to target/rlib/ and the one for C to target/libsscf.a.
+# Proves every crate, and writes the library for C to target/libsscf.a and the trace program to target/bin/trace.
 library: setup
-	rt check
+	rt all check
 	host/archive
+	host/program trace
 
 look: library
 	examples/wrong-row
@@ -63,4 +64,4 @@ test:
 	.ci/run
 
 clean:
-	rm -rf target
+	rm -rf target crates/*/out

@@ -36,6 +36,7 @@ const UNIT: u8 = 4;
 
 // Octets 4 to 11 of a signal that is known beforehand: code, parameter, number, zero, length. The compiler stores eight constants at once; so what a signal
 // carries is stored after them, by itself. Each of these signals has an arm of its own, so that where w is known to be one, nothing is tested.
+#[tactic(auto, unfolding(crate::specs::Writing::fixed_at))]
 fn fixed(w: u64) -> [u8; 8]
     ensures { result ≡ fixed_at w }
 {
@@ -81,6 +82,7 @@ fn fixed(w: u64) -> [u8; 8]
 }
 
 // The same of a signal that carries something, before that is stored. The last arm is that of DATA, and of any word past it.
+#[tactic(auto, unfolding(unit::specs::Proving::table8, unit::specs::Unit::unit_of))]
 fn carrying(w: u64) -> [u8; 8]
     requires { fixed_words ≤ w }
     ensures { result ≡ carrying_at w }
@@ -144,6 +146,7 @@ fn with_message(out: &mut [u8], e: &[u8]) -> usize
 }
 
 // The field that Table 8 offers to the peer, by MPS and UPS in a link's record.
+#[tactic(auto, unfolding(record::specs::LinkRecord::link_of))]
 fn offered(left: &[u8]) -> u8
     requires { length left.now ≡ record_octets }
     ensures { result ≡ code (table8 (link_of left.now).mps (link_of left.now).ups) }
@@ -202,6 +205,7 @@ fn front_of(e: &[u8]) -> [u8; 4]
 }
 
 // Writes a signal that is known beforehand over the front of out.
+#[tactic(auto, using(octet::proofs::Over::behind))]
 fn put_known(out: &mut [u8], front: [u8; 4], w: u64)
     requires { head_octets ≤ length out.old }
     ensures { out.new ≡ over (front ++ fixed_at w) out.old }

@@ -1,0 +1,145 @@
+-- `signal::put_carrying` meets its contract: the eight octets of the word, with what it carries in its place.
+use Rattle.std.proofs.Common.{◌≡◌, ℕ, ◌+◌, ◌/◌, ◌%◌, ◌<◌, ◌≤◌, Bool, true, false, ltb, List, [], ◌∷◌, ◌++◌, length, take, drop, set, refl, sym, ap, ◌∙◌, arith, length-drop, drop-cons}
+use mathlib.Core.Path.{subst}
+use lib.ListN.{length-set}
+use borrow.Author.Tests.{ltb-true, ltb-false}
+use Rattle.unit.specs.declared.Status.{Status}
+use Rattle.unit.specs.Unit.{code, unit_of}
+use Rattle.unit.specs.Proving.{table8}
+use Rattle.table6.specs.Stored.{word_at}
+use Rattle.table6.proofs.Lists.{alike_from}
+use Rattle.link.specs.declared.Carries.{Carries}
+use Rattle.link.specs.Stored.{Given, meant_by}
+use Rattle.octet.specs.Octets.{at, put_at}
+use Rattle.record.specs.LinkRecord.{link_of}
+use Rattle.event.specs.Frame.{param_at, number_at, message_of}
+use Rattle.event.proofs.Frame.{length_octets}
+use Rattle.signal.specs.Writing.{given, from_code, carrying_at, PutCode}
+use Rattle.signal.proofs.SignalRecord.{last_word, stored, with_body, with_end}
+use Rattle.signal.proofs.put_carrying.Goals as goal
+
+-- WHAT EACH RANGE OF WORDS COMES TO
+
+module _ (o : Given) (m : List ℕ) (w : ℕ) where
+  of_message : (b : Bool) → 44 ≤ w → ltb w 46 ≡ b → take 6 (carrying_at w) ++ (length m / 256 ∷ length m % 256 ∷ m) ≡ from_code m (meant_by o (word_at w))
+  of_message true h e = alike_from (λ w. take 6 (carrying_at w) ++ (length m / 256 ∷ length m % 256 ∷ m)) (λ w. from_code m (meant_by o (word_at w))) 44 2 [] refl w h (ltb-true w 46 e)
+  of_message false h e = rw (last_word w (ltb-false w 46 e)) refl
+
+  of_offer : 40 ≤ w → w < 42 → set (carrying_at w) 1 (code (table8 o.mps o.ups)) ≡ from_code m (meant_by o (word_at w))
+  of_offer h k = alike_from (λ w. set (carrying_at w) 1 (code (table8 o.mps o.ups))) (λ w. from_code m (meant_by o (word_at w))) 40 2 [] refl w h k
+
+  of_param : 38 ≤ w → w < 40 → set (carrying_at w) 1 o.param ≡ from_code m (meant_by o (word_at w))
+  of_param h k = alike_from (λ w. set (carrying_at w) 1 o.param) (λ w. from_code m (meant_by o (word_at w))) 38 2 [] refl w h k
+
+unit_ins : (o : Given) (m : List ℕ) → carrying_at 43 ++ unit_of Status.INS ≡ from_code m (meant_by o (word_at 43))
+unfolding unit_of
+unit_ins o m = refl
+
+unit_nm : (o : Given) (m : List ℕ) → carrying_at 42 ++ unit_of Status.NM ≡ from_code m (meant_by o (word_at 42))
+unfolding unit_of
+unit_nm o m = refl
+
+of_unit : (s : Status) (w k : ℕ) {l d d₁ d₂ : List ℕ} {r : ℕ} → w ≡ k → carrying_at k ++ unit_of s ≡ l → length (carrying_at k) ≡ 8 → 12 ≤ length d → PutCode (carrying_at w) d 12 d₁ →
+    (r ≡ 12 + length (unit_of s)) × (d₂ ≡ put_at d₁ 12 (unit_of s)) → PutCode l d r d₂
+of_unit s w k {d = d} {d₁ = d₁} {d₂ = d₂} {r = r} q e n h p g =
+    let p' = subst (λ (w : ℕ). PutCode (carrying_at w) d 12 d₁) q p in
+    subst (λ (l : List ℕ). PutCode l d r d₂) e (with_body p' h (unit_of s) (g.1 ∙ ap (λ (j : ℕ). put_at d₁ (4 + j) (unit_of s)) (sym n)) g.0)
+
+of_param_set : (s : List ℕ) (v : ℕ) {l d d₁ d₂ : List ℕ} {r : ℕ} → length s ≡ 8 → 12 ≤ length d → PutCode s d 12 d₁ → (r ≡ 12) × (d₂ ≡ set d₁ 5 v) → set s 1 v ≡ l → PutCode l d r d₂
+of_param_set s v {d = d} n h p g e =
+    let q = stored p h 1 v (omega (arith, n)) in
+    record { answer = g.0 ∙ q.answer ∙ ap (λ (x : List ℕ). 4 + length x) e; written = g.1 ∙ q.written ∙ ap (put_at d 4) e }
+
+of_number_set : (w k : ℕ) (a b c : ℕ) {l d d₁ d₂ : List ℕ} {r : ℕ} → w ≡ k → length (carrying_at k) ≡ 8 → 12 ≤ length d → PutCode (carrying_at w) d 12 d₁ →
+    (r ≡ 12) × (d₂ ≡ set (set (set d₁ 6 a) 7 b) 8 c) → set (set (set (carrying_at k) 2 a) 3 b) 4 c ≡ l → PutCode l d r d₂
+of_number_set w k a b c {d = d} {d₁ = d₁} z n h p g e =
+    let t = carrying_at k in
+    let x = length-set t 2 a in
+    let y = length-set (set t 2 a) 3 b in
+    let p' = subst (λ (w : ℕ). PutCode (carrying_at w) d 12 d₁) z p in
+    let q = stored (stored (stored p' h 2 a (omega (arith, n))) h 3 b (omega (arith, n, x))) h 4 c (omega (arith, n, x, y)) in
+    record { answer = g.0 ∙ q.answer ∙ ap (λ (x : List ℕ). 4 + length x) e; written = g.1 ∙ q.written ∙ ap (put_at d 4) e }
+
+carries_message : (o : Given) (w : ℕ) (b : Bool) → 44 ≤ w → ltb w 46 ≡ b → (meant_by o (word_at w)).carries ≡ Carries.Message
+carries_message o w true h e = alike_from (λ w. (meant_by o (word_at w)).carries) (λ w. Carries.Message) 44 2 Carries.Nothing refl w h (ltb-true w 46 e)
+carries_message o w false h e = rw (last_word w (ltb-false w 46 e)) refl
+
+-- an event from its length on
+tail : (e : List ℕ) → 12 ≤ length e → drop 10 e ≡ at e 10 ∷ at e 11 ∷ message_of e
+tail e h = drop-cons e 10 0 (omega arith) ∙ ap (λ (l : List ℕ). at e 10 ∷ l) (drop-cons e 11 0 (omega arith))
+
+-- THE EIGHT OCTETS ARE WRITTEN
+
+written : (w : ℕ) (r d d₁ : List ℕ) → r ≡ carrying_at w → d₁ ≡ put_at d 4 r → PutCode (carrying_at w) d 12 d₁
+written w r d d₁ p q = record { answer = refl; written = q ∙ ap (put_at d 4) p }
+
+eight_long : (w : ℕ) → length (carrying_at w) ≡ 8
+eight_long w = refl
+
+pub with_message-requires : goal.with_message-requires
+with_message-requires c =
+    let a = c.args in
+    let h = rw (carries_message (given (link_of a.left.now) a.e.now) a.w (ltb a.w 46) c.if-w-ge-RECEIVED_MESSAGE.true refl) at c.requires.3 in
+    (c.requires.2, omega (arith, h, c.requires.2.0, length-drop 12 a.e.now))
+
+pub returns-then-w-ge-RECEIVED_MESSAGE : goal.returns-then-w-ge-RECEIVED_MESSAGE
+returns-then-w-ge-RECEIVED_MESSAGE c =
+    let a = c.args in
+    let e = a.e.now in
+    let m = message_of e in
+    let h = c.requires.2 in
+    let l = length_octets e (omega (arith, c.type_inv.e 11)) h.1 in
+    let u = written a.w c.carrying-eight.result a.out.now c.put_at.new.dst c.carrying-eight.ensures c.put_at.ensures in
+    let p = with_end u (omega (arith, c.requires.3)) 6 (drop 10 e) (eight_long a.w) (omega arith) (omega (arith, length-drop 10 e, h.0)) in
+    let t : drop 10 e ≡ length m / 256 ∷ length m % 256 ∷ m = tail e h.0 ∙ (λ i. sym l.0 i ∷ sym l.1 i ∷ m) in
+    let q = ap (λ (x : List ℕ). take 6 (carrying_at a.w) ++ x) t ∙ of_message (given (link_of a.left.now) a.e.now) m a.w (ltb a.w 46) c.if-w-ge-RECEIVED_MESSAGE.true refl in
+    let g = c.with_message.ensures in
+    record {
+      answer = omega (arith, g.0, p.answer, ap length q, length-drop 10 e, h.0);
+      written = g.1 ∙ p.written ∙ ap (put_at a.out.now 4) q;
+    }
+
+pub returns-then-w-ge-UNIT_INS : goal.returns-then-w-ge-UNIT_INS
+returns-then-w-ge-UNIT_INS c =
+    let a = c.args in
+    let q : a.w ≡ 43 = omega (arith, c.if-w-ge-UNIT_INS.true, c.if-w-ge-RECEIVED_MESSAGE.false) in
+    let u = written a.w c.carrying-eight.result a.out.now c.put_at.new.dst c.carrying-eight.ensures c.put_at.ensures in
+    rw q (of_unit Status.INS a.w 43 q (unit_ins (given (link_of a.left.now) a.e.now) (message_of a.e.now)) refl (omega (arith, c.requires.3)) u c.with_unit.ensures)
+
+pub returns-then-w-ge-UNIT_NM : goal.returns-then-w-ge-UNIT_NM
+returns-then-w-ge-UNIT_NM c =
+    let a = c.args in
+    let q : a.w ≡ 42 = omega (arith, c.if-w-ge-UNIT_NM.true, c.if-w-ge-UNIT_INS.false) in
+    let u = written a.w c.carrying-eight.result a.out.now c.put_at.new.dst c.carrying-eight.ensures c.put_at.ensures in
+    rw q (of_unit Status.NM a.w 42 q (unit_nm (given (link_of a.left.now) a.e.now) (message_of a.e.now)) refl (omega (arith, c.requires.3)) u c.with_unit-then-w-ge-UNIT_NM.ensures)
+
+pub returns-then-w-ge-ESTABLISH_REQUEST : goal.returns-then-w-ge-ESTABLISH_REQUEST
+returns-then-w-ge-ESTABLISH_REQUEST c =
+    let a = c.args in
+    let u = written a.w c.carrying-eight.result a.out.now c.put_at.new.dst c.carrying-eight.ensures c.put_at.ensures in
+    of_param_set (carrying_at a.w) c.offered.result (eight_long a.w) (omega (arith, c.requires.3)) u c.with_param.ensures
+    (ap (set (carrying_at a.w) 1) c.offered.ensures ∙ of_offer (given (link_of a.left.now) a.e.now) (message_of a.e.now) a.w (omega arith) (omega arith))
+
+pub returns-then-w-ge-LINK_CONGESTED : goal.returns-then-w-ge-LINK_CONGESTED
+returns-then-w-ge-LINK_CONGESTED c =
+    let a = c.args in
+    let u = written a.w c.carrying-eight.result a.out.now c.put_at.new.dst c.carrying-eight.ensures c.put_at.ensures in
+    of_param_set (carrying_at a.w) (param_at a.e.now) (eight_long a.w) (omega (arith, c.requires.3)) u c.with_param-then-w-ge-LINK_CONGESTED.ensures
+    (of_param (given (link_of a.left.now) a.e.now) (message_of a.e.now) a.w (omega arith) (omega arith))
+
+pub returns-then-w-ge-RETRIEVE_REQUEST : goal.returns-then-w-ge-RETRIEVE_REQUEST
+returns-then-w-ge-RETRIEVE_REQUEST c =
+    let a = c.args in
+    let n = number_at a.e.now in
+    let q : a.w ≡ 37 = omega (arith, c.if-w-ge-RETRIEVE_REQUEST.true, c.if-w-ge-LINK_CONGESTED.false) in
+    let u = written a.w c.carrying-eight.result a.out.now c.put_at.new.dst c.carrying-eight.ensures c.put_at.ensures in
+    rw q (of_number_set a.w 37 n.a n.b n.c {l = from_code (message_of a.e.now) (meant_by (given (link_of a.left.now) a.e.now) (word_at 37))} q refl (omega (arith, c.requires.3)) u c.with_number.ensures refl)
+
+pub returns : goal.returns
+unfolding link_of
+returns c =
+    let a = c.args in
+    let n = (link_of a.left.now).bsnt.num in
+    let q : a.w ≡ 36 = omega (arith, c.requires.0, c.if-w-ge-RETRIEVE_REQUEST.false) in
+    let u = written a.w c.carrying-eight.result a.out.now c.put_at.new.dst c.carrying-eight.ensures c.put_at.ensures in
+    rw q (of_number_set a.w 36 n.a n.b n.c {l = from_code (message_of a.e.now) (meant_by (given (link_of a.left.now) a.e.now) (word_at 36))} q refl (omega (arith, c.requires.3)) u c.with_number-2.ensures refl)
