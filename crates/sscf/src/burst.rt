@@ -27,6 +27,7 @@ fn frames(events: &[u8]) -> usize
 
 // Whether a list is too short for them. One with a place for every twelve octets never is, and then they are not counted: a walk from frame to frame waits at each for
 // the length that tells where the next begins (D88).
+#[tactic(auto, using(crate::proofs::Singles::few_frames))]
 pub fn short_list(places: usize, events: &[u8]) -> bool
     ensures { result ≡ ltb places (length (frames events.now)) }
 {

@@ -28,6 +28,7 @@ fn refused(r: Refusal) -> Answer
 }
 
 // One event for one link.
+#[tactic(auto, unfolding(step::specs::Step::step_call))]
 pub fn sscf_step(table: &mut [u8], event: &[u8], out: &mut [u8]) -> Answer
     ensures { answering result table.new out.new ≡ step_call table.old event.now out.old }
 {
@@ -70,6 +71,7 @@ fn burst_refused(r: Refusal) -> BurstAnswer
 }
 
 // Events end to end, as their single calls one after the other.
+#[tactic(auto, unfolding(crate::specs::Burst::burst_call))]
 pub fn sscf_burst(
     table: &mut [u8],
     events: &[u8],
@@ -120,6 +122,7 @@ fn fresh_refused(r: Refusal) -> FreshAnswer
 const N1: u8 = 14;
 
 // A table of fresh links, with n1 proving units each.
+#[tactic(auto, unfolding(crate::specs::Fresh::fresh_call))]
 pub fn sscf_fresh(table: &mut [u8], n1: u16) -> FreshAnswer
     ensures { making result table.new ≡ fresh_call table.old n1 }
 {
