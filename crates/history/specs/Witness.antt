@@ -63,10 +63,10 @@ after calls = run (made (replicate 40 0) 2) calls
 abbrev pub conditions : List Mark → List Bool
 conditions h = alive h ∷ eqb (sent h) (due 2 h) ∷ told_ins 2 h ∷ heard_ins h ∷ []
 
-pub record Shows (calls : List Call) (in_service_lem : Bool) (hold : List Bool) : Type 0 where
+pub record Shows (calls : List Call) (in_service : Bool) (hold : List Bool) : Type 0 where
   pub links : records (after calls).table ≡ 2
   pub accepted : length (after calls).seen ≡ length calls
-  pub service : stands (history (after calls) 1) ≡ in_service_lem
+  pub service : stands (history (after calls) 1) ≡ in_service
   pub condition : conditions (history (after calls) 1) ≡ hold
 
 abbrev pub In : List Call → Type 0
@@ -85,9 +85,9 @@ octets (burst es o l ∷ calls) = es ++ octets calls
 abbrev pub in_one : List Call → List ℕ → Call
 in_one calls behind = burst (octets calls ++ behind) (replicate (output_octets + 400) 0) (replicate (length calls) 0)
 
-pub record InBurst (calls : List Call) (behind : List ℕ) (events : ℕ) (in_service_lem : Bool) (hold : List Bool) : Type 0 where
+pub record InBurst (calls : List Call) (behind : List ℕ) (events : ℕ) (in_service : Bool) (hold : List Bool) : Type 0 where
   pub accepted : length (after (in_one calls behind ∷ [])).seen ≡ events
-  pub service : stands (history (after (in_one calls behind ∷ [])) 1) ≡ in_service_lem
+  pub service : stands (history (after (in_one calls behind ∷ [])) 1) ≡ in_service
   pub condition : conditions (history (after (in_one calls behind ∷ [])) 1) ≡ hold
 
 -- two proving units, the peer's INS unit, and with the third expiry the link's own

@@ -29,8 +29,8 @@ pub record Meeting : Type 0 where
 abbrev pub meets : Heading → Meeting
 meets h = record { heading = h; param = 0; number = none; source = 0; len = 0 }
 
-abbrev pub with_param_lem : ℕ → Heading → Meeting
-with_param_lem p h = record { heading = h; param = p; number = none; source = 0; len = 0 }
+abbrev pub with_parameter : ℕ → Heading → Meeting
+with_parameter p h = record { heading = h; param = p; number = none; source = 0; len = 0 }
 
 -- The row of data by what arrived, and of a T3 expiry by C1.
 abbrev pub data_row : Arrived → Heading
@@ -53,8 +53,8 @@ meeting event.RetrieveBsnt c1 = meets (plain paper.AAL-RETRIEVE-BSNT-request)
 meeting (event.Retrieval n) c1 = record { heading = plain paper.AAL-RETRIEVAL-REQUEST-AND-FSNC-request; param = 0; number = n; source = 0; len = 0 }
 meeting event.FlushBuffers c1 = meets (plain paper.AAL-FLUSH-BUFFERS-request)
 meeting event.Continue c1 = meets (plain paper.AAL-CONTINUE-request)
-meeting (event.EstablishIndication f) c1 = with_param_lem f AA-ESTABLISH-indication
-meeting (event.EstablishConfirm f) c1 = with_param_lem f AA-ESTABLISH-confirm
+meeting (event.EstablishIndication f) c1 = with_parameter f AA-ESTABLISH-indication
+meeting (event.EstablishConfirm f) c1 = with_parameter f AA-ESTABLISH-confirm
 meeting (event.ReleaseIndication f s) c1 = record { heading = AA-RELEASE-indication; param = f; number = none; source = s; len = 0 }
 meeting event.ReleaseConfirm c1 = meets (plain paper.AA-RELEASE-confirm)
 meeting (event.Data a n) c1 = record { heading = data_row a; param = 0; number = n; source = 0; len = 0 }
@@ -70,7 +70,7 @@ meeting event.Recovered c1 = meets (plain paper.MAAL-LOCAL-PROCESSOR-RECOVERED-r
 meeting event.ForceProving c1 = meets (plain paper.MAAL-FORCE-PROVING-request)
 meeting event.ForceEmergency c1 = meets (plain paper.MAAL-FORCE-EMERGENCY-request)
 meeting event.ClearForceModes c1 = meets (plain paper.MAAL-CLEAR-FORCE-MODES-request)
-meeting (event.Congestion level) c1 = with_param_lem level Local-Congestion
+meeting (event.Congestion level) c1 = with_parameter level Local-Congestion
 meeting event.CongestionCeased c1 = meets Local-Congestion-Ceased
 meeting event.T1 c1 = meets (behind (end T1) paper.T1-expires)
 meeting event.T2 c1 = meets (behind (end T2) paper.T2-expires)

@@ -9,7 +9,7 @@ use Rattle.table6.specs.declared.Facts.{Facts}
 use Rattle.table6.specs.Cell.{Act, tell, alter, holds, Cell, Illegal, to, ◌⨟◌, ◌⨾◌, IF◌THEN◌ELSE◌, Row, cell, Choice, illegal, does, after, chosen}
 use Rattle.table6.specs.Rows.{Printed, one, two, printed, Heading, rows, nowhere, heading}
 use Rattle.table6.specs.Every.{Test, in_cell, in_states, in_row, in_printed, behind_each, in_rows, Every, stop, but_stop, start, but_start, expiry_of_t2, but_expiry_of_t2}
-use Rattle.table6.specs.Every.{five, one_message, in_service_lem, out_of_service, not_told, release, response, proving, t1_set, t2_set, t2_not_set, t2_reset, given_up_lem}
+use Rattle.table6.specs.Every.{five, one_message, in_service, out_of_service, not_told, release, response, proving, t1_set, t2_set, t2_not_set, t2_reset, given_up}
 use Rattle.table6.proofs.Unfolded.{every_row}
 
 pub at_most_five : Every five
@@ -20,7 +20,7 @@ pub at_most_one_message : Every one_message
 unfolding every_row
 at_most_one_message = refl
 
-pub in_service_said : Every in_service_lem
+pub in_service_said : Every in_service
 unfolding every_row
 in_service_said = refl
 
@@ -60,7 +60,7 @@ pub t2_reset_said : in_rows t2_reset but_expiry_of_t2 ≡ true
 unfolding every_row
 t2_reset_said = refl
 
-pub t2_gives_up : in_rows given_up_lem expiry_of_t2 ≡ true
+pub t2_gives_up : in_rows given_up expiry_of_t2 ≡ true
 unfolding every_row
 t2_gives_up = refl
 

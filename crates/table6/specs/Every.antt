@@ -112,8 +112,8 @@ abbrev pub one_message : Test
 one_message s acts next = leb (own_messages (signals acts)) 1
 
 -- IN_SERVICE is said exactly where 3/10/5 is entered.
-abbrev pub in_service_lem : Test
-in_service_lem s acts next = same (says IN-SERVICE acts) (is next 3/10/5 && not (is s 3/10/5))
+abbrev pub in_service : Test
+in_service s acts next = same (says IN-SERVICE acts) (is next 3/10/5 && not (is s 3/10/5))
 
 -- OUT_OF_SERVICE is said exactly where the link goes out of service, but for the user's own STOP, which never says it.
 abbrev pub out : State → Bool
@@ -161,5 +161,5 @@ aligning s = not (out s || is s 3/10/5)
 abbrev pub t2_reset : Test
 t2_reset s acts next = same (says RESET-T2 acts) (aligning s && not (aligning next))
 
-abbrev pub given_up_lem : Test
-given_up_lem s acts next = aligning s && (out next && (says OUT-OF-SERVICE acts && not (says RESET-T2 acts)))
+abbrev pub given_up : Test
+given_up s acts next = aligning s && (out next && (says OUT-OF-SERVICE acts && not (says RESET-T2 acts)))
