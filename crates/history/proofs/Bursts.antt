@@ -10,7 +10,7 @@ use Rattle.step.specs.Step.{step_call}
 use Rattle.sscf.specs.Burst as calls
 use Rattle.sscf.proofs.Singles.{single, each_call}
 use Rattle.sscf.specs.Burst.{Single, singly, table_after, burst_checks, calls_by, singles, burst_call}
-use Rattle.history.specs.Calls.{burst, World, stepped, each, next, run}
+use Rattle.history.specs.Calls.{World, stepped, each, next, run}
 use Rattle.history.specs.Bursts.{steps, AsSingleCalls}
 
 -- the table is the one that the last call left

@@ -3,7 +3,7 @@
 use mathlib.Core.Path.{◌≡◌, refl, sym, ap, subst, ◌∙◌}
 use mathlib.Core.Logic.{◌↔◌}
 use mathlib.Core.Bool.{Bool, true, false, cond, not, ◌&&◌, ◌||◌, beq, false≢true, true≢false}
-use mathlib.Core.List.{List, [], ◌∷◌, ◌++◌, append-nil, map}
+use mathlib.Core.List.{List, [], ◌∷◌, ◌++◌, map}
 use Prim.Native.Nat.{ℕ, zero, suc}
 use native.Mathlib.Omega.{arith}
 use lib.Dec.{eqb}
@@ -16,12 +16,12 @@ use Rattle.table6.specs.declared.Facts.{Facts}
 use Rattle.table6.specs.EventCodes.{MESSAGE-FOR-TRANSMISSION}
 use Rattle.table6.specs.SignalCodes.{code}
 use Rattle.table6.specs.Words.{2/10/3, is-2/10/3}
-use Rattle.table6.specs.Cell.{Told, Act, tell, alter, holds, Cell, Illegal, to, ◌⨟◌, ◌⨾◌, IF◌THEN◌ELSE◌, cell, Choice, illegal, does, chosen}
+use Rattle.table6.specs.Cell.{Told, Act, cell, Choice, illegal, does, chosen}
 use Rattle.table6.specs.Order.{signals}
-use Rattle.table6.specs.Rows.{Printed, one, two, printed, Heading, rows, nowhere, heading}
+use Rattle.table6.specs.Rows.{printed, Heading, rows, nowhere, heading}
 use Rattle.table6.specs.Summary.{Op, keep, put, over, still, summary, Summed, refused, summed, sum}
 use Rattle.table6.specs.Stored.{goes_on}
-use Rattle.table6.specs.Every.{Test, in_cell, in_row, in_printed}
+use Rattle.table6.specs.Every.{Test, in_printed}
 use Rattle.table6.proofs.Every.{left, right, Holds, no_row, of_printed}
 use Rattle.table6.proofs.Unfolded.{every_row}
 use Rattle.link.specs.declared.Num.{Num}

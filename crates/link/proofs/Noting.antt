@@ -11,7 +11,7 @@ use Rattle.link.specs.declared.Link.{Link}
 use Rattle.link.specs.declared.Event.{Event}
 use Rattle.link.specs.declared.Event.TheVariants as event
 use Rattle.link.specs.declared.View.{View}
-use Rattle.link.specs.Stored.{bare_view, view_of, number_in, arrived_of, risen_of, bsnt_noted, flag_noted, last_sent, Noted, noted_of}
+use Rattle.link.specs.Stored.{bare_view, view_of, number_in, arrived_of, bsnt_noted, flag_noted, last_sent, Noted, noted_of}
 use Rattle.link.proofs.Arrivals.{Met-so, left_of, down, undecided_29, undecided_30}
 
 -- OF AN EVENT BY ITSELF

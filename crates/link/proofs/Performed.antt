@@ -6,7 +6,6 @@ use Prim.Native.Nat.{ℕ}
 use lib.Dec.{eqb}
 use Rattle.unit.specs.declared.Arrived.{Arrived}
 use Rattle.table6.specs.declared.State.{State}
-use Rattle.table6.specs.declared.Facts.{Facts}
 use Rattle.table6.specs.Words.{2/4/2, 2/10/3, is-2/10/3}
 use Rattle.table6.specs.Cell.{T1, T2, T3, Told, Done, Act, tell, alter, cell, Choice, illegal, does, chosen}
 use Rattle.table6.specs.Order.{signals}

@@ -1,7 +1,7 @@
 -- A cell says as many signals as its number counts. Assumes nothing.
 use mathlib.Core.Path.{◌≡◌, refl, ap, ◌∙◌}
 use mathlib.Core.List.{List, [], ◌∷◌, map}
-use Prim.Native.Nat.{ℕ, zero, suc, ◌/◌, ◌^◌}
+use Prim.Native.Nat.{ℕ, zero, suc, ◌/◌}
 use lib.ListN.{length}
 use Rattle.table6.specs.Stored.{word_at, lowest, said}
 use Rattle.link.specs.Stored.{Given, meant_by, signals_of}

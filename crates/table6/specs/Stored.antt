@@ -13,7 +13,7 @@ use Rattle.table6.specs.Words.{–, OOS, PO, INS, NM, ANS, MI, PE, PNS, LR, RR, 
 use Rattle.table6.specs.Cell.{T1, T2, T3, Told, Act, tell, Cond, LPO=0, LPO=0&INS=0, LPO=0&INS=1, UU=EM-or-NM, Source=User, BSNT-available, MU>4, holds, cell, chosen}
 use Rattle.table6.specs.Order.{signals}
 use Rattle.table6.specs.Rows.{printed, Heading, heading}
-use Rattle.table6.specs.Summary.{Op, keep, put, over, Count, same, decided, less, Summary, still, with_mps, with_ups, with_c1, with_bsnt, with_congested, Summed, refused, summed, summary, sum}
+use Rattle.table6.specs.Summary.{Op, keep, put, over, same, decided, less, Summary, still, with_mps, with_ups, with_c1, with_bsnt, with_congested, Summed, refused, summed, summary, sum}
 
 -- CELLS
 
