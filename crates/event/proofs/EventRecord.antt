@@ -323,19 +323,19 @@ module _ (e : List ℕ) (r : ToldOf e Reading.Fits) where
   coded_as : coded_in e ≡ Coded.Of (event_of e)
   coded_as = known (coded_in e) r.1
 
-  abbrev eventsIn : List Event
-  eventsIn = events (param_at e) (number_at e) (length_at e) (arrived (message_of e))
+  abbrev events_in : List Event
+  events_in = events (param_at e) (number_at e) (length_at e) (arrived (message_of e))
 
   fits_whole : carried (event_of e) ≡ carrying (code_at e) (param_at e) (number_at e)
   unfolding coded_at
   fits_whole =
       let w = whole (code_at e) (param_at e) (number_at e) (length_at e) r.2 in
-      of_events (Keeps (param_at e) (number_at e)) (code_at e) eventsIn (keeps (param_at e) (number_at e) (length_at e) (arrived (message_of e))) coded_as ∙ (λ i. carrying (code_at e) (w.0 i) (w.1 i))
+      of_events (Keeps (param_at e) (number_at e)) (code_at e) events_in (keeps (param_at e) (number_at e) (length_at e) (arrived (message_of e))) coded_as ∙ (λ i. carrying (code_at e) (w.0 i) (w.1 i))
 
   -- and a link sees it so
   pub fits_seen : (c1 : ℕ) → seen c1 (event_of e) ≡ carrying (code_at e) (param_at e) (number_at e)
   unfolding coded_at
-  fits_seen c1 = of_events (λ c x. seen c1 x ≡ carried x) (code_at e) eventsIn (all_seen c1 (param_at e) (number_at e) (length_at e) (arrived (message_of e))) coded_as ∙ fits_whole
+  fits_seen c1 = of_events (λ c x. seen c1 x ≡ carried x) (code_at e) events_in (all_seen c1 (param_at e) (number_at e) (length_at e) (arrived (message_of e))) coded_as ∙ fits_whole
 
 pub rewritten : Rewritten
 rewritten e l x o h =

@@ -50,10 +50,10 @@ use Rattle.history.proofs.Tested.{connection, not_none}
 use Rattle.history.proofs.Latest.{shows_number, shows_none}
 use Rattle.history.proofs.Lawful.{implied}
 use Rattle.history.proofs.Walk.{Kind, quiet, stops, confirms, releases, hears, receives, wishes, forces, Of, counting, each}
-use Rattle.history.proofs.Table.{Now, down, on, now, sort_at, same_op_lem, Asks, onward, Passes, by_test}
+use Rattle.history.proofs.Table.{Now, down, on, now, sort_at, same_op, Asks, onward, Passes, by_test}
 use Rattle.history.proofs.Calls.{emitted_ones, Keeps, Invariant, Kept, after_each_call}
 use Rattle.history.proofs.Events.{Told, sorted}
-use Rattle.history.proofs.Step.{NowIs, Inv, keeps_inv, same_op, twice}
+use Rattle.history.proofs.Step.{NowIs, Inv, keeps_inv, same_op_lem, twice}
 use Rattle.history.proofs.Pics.{Hands, hands, led, ended, brings}
 
 -- THE TEST: what becomes of BSNT is what the marks tell. Data takes its number, and there is a connection; a confirm brings one up, and so does a response.
@@ -86,7 +86,7 @@ abbrev tells : Kind → List table6.Told → Op Bool
 tells k told = cond (responds told) (put false) (brought k)
 
 abbrev remembers : Asks
-remembers s st flag r says next = (not (takes (brought s.mark)) || connected (now st flag)) && same_op_lem bit (tells s.mark says) r.bsnt
+remembers s st flag r says next = (not (takes (brought s.mark)) || connected (now st flag)) && same_op bit (tells s.mark says) r.bsnt
 
 table_remembers : Passes (onward remembers)
 unfolding every_row
@@ -174,7 +174,7 @@ module _ (n1 : ℕ) (l : Link) (h : List Mark) (v : Inv n1 l h) (is : bsnt h ≡
       let o = brought kind in
       let there = now l.state l.ins in
       let on_one = not (takes o) || connected there in
-      let so = same_op_lem bit (tells kind told) r.bsnt in
+      let so = same_op bit (tells kind told) r.bsnt in
       let a = arrived (message_of e) in
       let up : takes o ≡ true → not (none new_connection h) ≡ true = λ x. came_up n1 l.c1 h there v.now_is (implied (takes o) (connected there) (left on_one so i) x) in
       let number : takes o ≡ true → seen.2 ≡ number_at e = λ x. number_seen (code_at e) (param_at e) (number_at e) (length_at e) a l.c1 (data_kind kind (code_at e) a t.mark x) in
@@ -182,7 +182,7 @@ module _ (n1 : ℕ) (l : Link) (h : List Mark) (v : Inv n1 l h) (is : bsnt h ≡
       (signals_told (link_at e) (message_of e) seen.1 seen.2 l.mps l.ups l.bsnt.num told (event_mark e ∷ h)
       ∙ ap (cond (responds told) not_retrievable) (event_told kind (code_at e) (param_at e) (number_at e) a h t.mark up ∙ seen_so o (number_at e) seen.2 (bsnt h) number)
       ∙ told_so (responds told) o seen.2 (bsnt h)
-      ∙ ap (λ (x : Op Bool). held x seen.2 (bsnt h)) (same_op bit (λ n. eqb n 1) bit_back (tells kind told) r.bsnt (right on_one so i))
+      ∙ ap (λ (x : Op Bool). held x seen.2 (bsnt h)) (same_op_lem bit (λ n. eqb n 1) bit_back (tells kind told) r.bsnt (right on_one so i))
       ∙ ap (held r.bsnt seen.2) is)
 
 -- beside what a link's record says of its history otherwise

@@ -148,15 +148,15 @@ module _ (o : Given) (e : List ℕ) (flag free : Bool) where
   abbrev viewed : ℕ → List Told → View
   viewed c says = along seen (map (mark_of o (own c e)) says) (seen (accepted c (param_at e) (number_at e) (arrived (message_of e))) record { flag = flag; free = free; proper = true })
 
-  abbrev lastTold : ℕ → List Told → Op ℕ
-  lastTold c says = along sent (map (mark_of o (own c e)) says) keep
+  abbrev last_told : ℕ → List Told → Op ℕ
+  last_told c says = along sent (map (mark_of o (own c e)) says) keep
 
   abbrev fine : ℕ → Summed → Bool
   fine c refused = true
   fine c (summed s says next) =
       let v = viewed c says in
       let now = over s.congested flag in
-      beq v.flag now && (allowed next now v.free && (v.proper && same (lastTold c says) s.last))
+      beq v.flag now && (allowed next now v.free && (v.proper && same (last_told c says) s.last))
 
   abbrev leads : ℕ → List Act → Test
   leads c arrives s acts next = not (allowed s flag free) || fine c (goes_on flag s (summed (summary (arrives ++ acts) still) (signals acts) next))
@@ -219,7 +219,7 @@ module _ (n1 : ℕ) (l : Link) (h : List Mark) (v : Inv n1 l h) (e : List ℕ) (
   view_so says =
       rw (no_unit e p) (all_marks (link_at e) (message_of e) given seen (λ y g. view g ≡ y) (λ m y g i. ap (seen m) i) says _ (event_mark e ∷ h) (ap (seen (event_mark e)) found))
 
-  last_so : (says : List Told) → last_sent (then says) ≡ over (lastTold given e l.congested (view h).free (code_at e) says) l.last
+  last_so : (says : List Told) → last_sent (then says) ≡ over (last_told given e l.congested (view h).free (code_at e) says) l.last
   last_so says =
       rw (no_unit e p) (all_marks (link_at e) (message_of e) given sent (λ o g. last_sent g ≡ over o l.last) (sent_so l.last) says keep (event_mark e ∷ h) v.last_is)
 
@@ -227,7 +227,7 @@ module _ (n1 : ℕ) (l : Link) (h : List Mark) (v : Inv n1 l h) (e : List ℕ) (
   fine_so refused t = tt
   fine_so (summed s says next) t =
       let w : View = viewed given e l.congested (view h).free (code_at e) says in
-      let o : Op ℕ = lastTold given e l.congested (view h).free (code_at e) says in
+      let o : Op ℕ = last_told given e l.congested (view h).free (code_at e) says in
       let now : Bool = over s.congested l.congested in
       let t₁ : allowed next now w.free && (w.proper && same o s.last) ≡ true = right (beq w.flag now) _ t in
       let t₂ : w.proper && same o s.last ≡ true = right (allowed next now w.free) _ t₁ in

@@ -33,7 +33,7 @@ use Rattle.history.specs.Tests.{stands, alive, sent, due, told_ins, heard_ins}
 use Rattle.history.proofs.Lawful.{lawful}
 use Rattle.history.proofs.Walk.{Base, held, new, Conn, dead, live, Abs, abs, Found, sent_at, due_at, ConnIs, Is, Is?, Before, rule_event, rule_signal, signal_ok, event_ok}
 use Rattle.history.proofs.Table.{Now, down, on, serving, now, Sort, begin, level, sign, sign_of, told}
-use Rattle.history.proofs.Table.{takes, decides, least, counts, still_level, same_op_lem, fits, ends, leads, sort_at, table_ok, by_test}
+use Rattle.history.proofs.Table.{takes, decides, least, counts, still_level, same_op, fits, ends, leads, sort_at, table_ok, by_test}
 use Rattle.history.proofs.Calls.{Keeps, Invariant}
 use Rattle.history.proofs.Events.{Told, sorted}
 
@@ -61,11 +61,11 @@ beq_eq true false e = absurd (false≢true e)
 beq_eq false true e = absurd (false≢true e)
 beq_eq false false e = refl
 
-pub same_op : {A : Type 0} (code : A → ℕ) (back : ℕ → A) → ((x : A) → back (code x) ≡ x) → (o q : Op A) → same_op_lem code o q ≡ true → o ≡ q
-same_op code back inv keep keep e = refl
-same_op code back inv keep (put z) e = absurd (false≢true e)
-same_op code back inv (put y) keep e = absurd (false≢true e)
-same_op code back inv (put y) (put z) e = ap put (sym (inv y) ∙ ap back (eqb-true (code y) (code z) e) ∙ inv z)
+pub same_op_lem : {A : Type 0} (code : A → ℕ) (back : ℕ → A) → ((x : A) → back (code x) ≡ x) → (o q : Op A) → same_op code o q ≡ true → o ≡ q
+same_op_lem code back inv keep keep e = refl
+same_op_lem code back inv keep (put z) e = absurd (false≢true e)
+same_op_lem code back inv (put y) keep e = absurd (false≢true e)
+same_op_lem code back inv (put y) (put z) e = ap put (sym (inv y) ∙ ap back (eqb-true (code y) (code z) e) ∙ inv z)
 
 ups_back : (x : Ups) → ups_at (ups_code x) ≡ x
 ups_back Ups.Normal = refl
@@ -196,13 +196,13 @@ module _ (n1 : ℕ) (l : Link) (h : List Mark) (v : Inv n1 l h) (k : ℕ) (m : L
   ended none r n next g e i = absurd (false≢true e)
   ended (some (abs st y u w)) r n next g e i =
       let e₁ = right (beq st (serving next)) _ e in
-      let e₂ = right (same_op_lem ups_code u r.ups) _ e₁ in
+      let e₂ = right (same_op ups_code u r.ups) _ e₁ in
       record {
         n1_is = v.n1_is;
-        ups_is = i.2 ∙ ap (λ (o : Op Ups). over o l.ups) (same_op ups_code ups_at ups_back u r.ups (left (same_op_lem ups_code u r.ups) _ e₁));
-        mps_is = i.3 ∙ ap (λ (o : Op Mps). over o l.mps) (same_op mps_code mps_at mps_back w r.mps (left (same_op_lem mps_code w r.mps) _ e₂));
+        ups_is = i.2 ∙ ap (λ (o : Op Ups). over o l.ups) (same_op_lem ups_code ups_at ups_back u r.ups (left (same_op ups_code u r.ups) _ e₁));
+        mps_is = i.3 ∙ ap (λ (o : Op Mps). over o l.mps) (same_op_lem mps_code mps_at mps_back w r.mps (left (same_op mps_code w r.mps) _ e₂));
         stand_is = i.0 ∙ beq_eq st (serving next) (left (beq st (serving next)) _ e);
-        now_is = conn_after r.c1 y (now next (over r.ins l.ins)) g (right (same_op_lem mps_code w r.mps) _ e₂) i.1;
+        now_is = conn_after r.c1 y (now next (over r.ins l.ins)) g (right (same_op mps_code w r.mps) _ e₂) i.1;
         lawful_is = i.5;
       }
 

@@ -159,11 +159,11 @@ abbrev pub still_level : Bool → Base → Bool
 still_level z held = z
 still_level z new = false
 
-abbrev pub same_op_lem : {A : Type 0} → (A → ℕ) → Op A → Op A → Bool
-same_op_lem code keep keep = true
-same_op_lem code keep (put y) = false
-same_op_lem code (put x) keep = false
-same_op_lem code (put x) (put y) = eqb (code x) (code y)
+abbrev pub same_op : {A : Type 0} → (A → ℕ) → Op A → Op A → Bool
+same_op code keep keep = true
+same_op code keep (put y) = false
+same_op code (put x) keep = false
+same_op code (put x) (put y) = eqb (code x) (code y)
 
 abbrev pub fits : Bool → Sort → Count → Conn → Now → Bool
 fits z s c dead down = true
@@ -174,7 +174,7 @@ fits z s c (live a g b n) (on a' g' k) = beq a a' && (beq g g' && (counts s c b 
 abbrev pub ends : Bool → Sort → Bool → Summary → State → Option Abs → Bool
 ends z s flag r next none = false
 ends z s flag r next (some (abs st c u m)) =
-    beq st (serving next) && (same_op_lem ups_code u r.ups && (same_op_lem mps_code m r.mps && fits z s r.c1 c (now next (over r.ins flag))))
+    beq st (serving next) && (same_op ups_code u r.ups && (same_op mps_code m r.mps && fits z s r.c1 c (now next (over r.ins flag))))
 
 abbrev pub leads : Asks
 leads s st flag r says next =

@@ -148,12 +148,12 @@ pub map_append : {A B : Type 0} (f : A → B) (xs ys : List A) → map f (xs ++ 
 map_append f [] ys = refl
 map_append f (x ∷ xs) ys = ap (f x ∷◌) (map_append f xs ys)
 
--- In 2/10/3 congestion does what `giving_up` says, and its signals take nothing: the flag was set already.
-giving_up : (s : Summary) (p : ℕ) (n : Num) (l : Link) → over s.congested l.congested ≡ true →
+-- In 2/10/3 congestion does what `gives_up` says, and its signals take nothing: the flag was set already.
+gives_up_lem : (s : Summary) (p : ℕ) (n : Num) (l : Link) → over s.congested l.congested ≡ true →
     at_meeting (with_state 2/10/3 (summed_up s p n l)) (meets Local-Congestion)
     ≡ Legal (with_state 2/4/2 (summed_up (summary gives_up s) p n l)) (map (signal_of p n l.mps l.ups l.bsnt.num) (signals gives_up))
 unfolding every_row
-giving_up s p n l e =
+gives_up_lem s p n l e =
     ap (λ (b : Bool). Legal (with_congested b (with_state 2/4/2 (summed_up (summary gives_up s) p n l))) (map (signal_of p n l.mps l.ups l.bsnt.num) (signals gives_up))) (sym e)
 
 is_so : (x : State) → is-2/10/3 x ≡ true → x ≡ 2/10/3
@@ -171,21 +171,21 @@ pub onward_summed : (l : Link) (m : Meeting) (x : Summed) → onward l (outcome_
 onward_summed l m refused = refl
 onward_summed l m (summed s says next) =
     by (not (is-2/10/3 l.state) && (is-2/10/3 next && over s.congested l.congested)) refl where
-      tell-all : Told → Signal
-      tell-all = signal_of m.param m.number l.mps l.ups l.bsnt.num
+      tell_all : Told → Signal
+      tell_all = signal_of m.param m.number l.mps l.ups l.bsnt.num
 
       left_there : State → Link
       left_there x = with_state x (summed_up s m.param m.number l)
 
       by : (z : Bool) → not (is-2/10/3 l.state) && (is-2/10/3 next && over s.congested l.congested) ≡ z →
-          cond z (behind_these (map tell-all says) (at_meeting (left_there next) (meets Local-Congestion))) (Legal (left_there next) (map tell-all says))
+          cond z (behind_these (map tell_all says) (at_meeting (left_there next) (meets Local-Congestion))) (Legal (left_there next) (map tell_all says))
           ≡ outcome_of l m (cond z (summed (summary gives_up s) (says ++ signals gives_up) 2/4/2) (summed s says next))
       by false e = refl
       by true e =
           let t : is-2/10/3 next && over s.congested l.congested ≡ true = right (not (is-2/10/3 l.state)) _ e in
-          ap (λ (x : State). behind_these (map tell-all says) (at_meeting (left_there x) (meets Local-Congestion))) (is_so next (left (is-2/10/3 next) _ t))
-          ∙ ap (behind_these (map tell-all says)) (giving_up s m.param m.number l (right (is-2/10/3 next) _ t))
-          ∙ ap (Legal (with_state 2/4/2 (summed_up (summary gives_up s) m.param m.number l))) (sym (map_append tell-all says (signals gives_up)))
+          ap (λ (x : State). behind_these (map tell_all says) (at_meeting (left_there x) (meets Local-Congestion))) (is_so next (left (is-2/10/3 next) _ t))
+          ∙ ap (behind_these (map tell_all says)) (gives_up_lem s m.param m.number l (right (is-2/10/3 next) _ t))
+          ∙ ap (Legal (with_state 2/4/2 (summed_up (summary gives_up s) m.param m.number l))) (sym (map_append tell_all says (signals gives_up)))
 
 -- what an event does, from the summed-up cell that its view meets
 pub as_met : (l : Link) (e : Event) →

@@ -3,7 +3,7 @@
 
 mod report;
 
-ghost use Rattle.std.specs.Prelude.{◌≡◌, ◌++◌, ◌+◌, ◌*◌, ◌≤◌, length, drop, set};
+ghost use Rattle.std.specs.Prelude.{◌≡◌, ◌++◌, ◌+◌, ◌*◌, ◌≤◌, cond, ltb, length, drop, set};
 ghost use Rattle.unit.specs.Unit.{code, unit_of};
 ghost use Rattle.unit.specs.Proving.{table8};
 ghost use Rattle.table6.specs.Stored.{word_at};
@@ -20,7 +20,7 @@ use link::Num;
 use octet::{put, put_at, wide};
 use report::{ALN, ANS, CC, CD, INS, LR, NONE, OOS, PDUT, PE, RR, SR, SREC, SSCOP_UU, UDR};
 use table6::{effects, signals};
-use unit::Status;
+use unit::{Mps, Status};
 
 // The mark of a signal.
 const SG: [u8; 2] = *b"SG";
@@ -145,13 +145,28 @@ fn with_message(out: &mut [u8], e: &[u8]) -> usize
     end
 }
 
-// The field that Table 8 offers to the peer, by MPS and UPS in a link's record.
+// The field that Table 8 offers to the peer, by MPS and UPS in a link's record. MPS is told by its octet, which takes less flash than a state made of it first.
 #[tactic(auto, unfolding(record::specs::LinkRecord::link_of))]
 fn offered(left: &[u8]) -> u8
     requires { length left.now ≡ record_octets }
     ensures { result ≡ code (table8 (link_of left.now).mps (link_of left.now).ups) }
 {
-    unit::sscop_uu(record::mps_at(left[4]), record::ups_at(left[5])).code()
+    let ups = record::ups_at(left[5]);
+    match left[4] {
+        0 => unit::sscop_uu(Mps::Neutral, ups).code(),
+        1 => unit::sscop_uu(Mps::Normal, ups).code(),
+        _ => unit::sscop_uu(Mps::Emergency, ups).code(),
+    }
+}
+
+// The unit of a word that sends one: the two are written by one code, which takes less flash.
+fn unit_in(w: u64) -> Status
+    ensures { result ≡ cond (ltb w 43) Status.NM Status.INS }
+{
+    if effects::UNIT_INS <= w {
+        return Status::INS;
+    }
+    Status::NM
 }
 
 // Writes a signal that carries something from octet 4 on, and answers its length. What it carries is told by ranges of words.
@@ -164,11 +179,8 @@ fn put_carrying(out: &mut [u8], w: u64, left: &[u8], e: &[u8]) -> usize
     if effects::RECEIVED_MESSAGE <= w {
         return with_message(out, e);
     }
-    if effects::UNIT_INS <= w {
-        return with_unit(out, Status::INS);
-    }
     if effects::UNIT_NM <= w {
-        return with_unit(out, Status::NM);
+        return with_unit(out, unit_in(w));
     }
     if effects::ESTABLISH_REQUEST <= w {
         return with_param(out, offered(left));

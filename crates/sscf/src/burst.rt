@@ -37,17 +37,16 @@ pub fn short_list(places: usize, events: &[u8]) -> bool
     places < frames(events)
 }
 
-// What is told of the place where a burst has stopped.
+// What is told of the place where a burst has stopped. Both are asked at once: the compiler then keeps no constants for the answer's first two numbers (D88).
 fn broken(rest: &[u8]) -> u32
     ensures { result ≡ broken_at rest.now }
 {
-    if rest.len() == 0 {
-        return 0;
+    let size = front(rest);
+    if (rest.len() != 0) & (size == 0) {
+        Refusal::Frame.number()
+    } else {
+        0
     }
-    if front(rest) == 0 {
-        return Refusal::Frame.number();
-    }
-    0
 }
 
 // Makes the calls of the sound frames, as long as there is room, and lists their refusals.

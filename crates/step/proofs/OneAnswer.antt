@@ -14,7 +14,7 @@ use Rattle.step.proofs.octets_in.Reads as octets
 use Rattle.step.proofs.signals_in.Kinds as signals-kinds
 use Rattle.step.proofs.signals_in.Reads as signals
 use Rattle.step.proofs.place_in.Kinds as place-in-kinds
-use Rattle.step.proofs.place_in.Reads as IsPlace-in
+use Rattle.step.proofs.place_in.Reads as place-in
 use Rattle.step.proofs.Refusal.number.Kinds as number-kinds
 use Rattle.step.proofs.Refusal.number.Reads as number
 use Rattle.step.proofs.Refusal.place.Kinds as place-kinds
@@ -42,5 +42,5 @@ octets_one κs arguments x y e f = equal
 pub signals_one : OneAnswer signals-kinds.ps signals-kinds.r signals.Post
 signals_one κs arguments x y e f = equal
 
-pub place_in_one : OneAnswer place-in-kinds.ps place-in-kinds.r IsPlace-in.Post
+pub place_in_one : OneAnswer place-in-kinds.ps place-in-kinds.r place-in.Post
 place_in_one κs arguments x y e f = equal

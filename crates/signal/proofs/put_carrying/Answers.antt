@@ -1,5 +1,5 @@
 -- `signal::put_carrying` meets its contract: the eight octets of the word, with what it carries in its place.
-use Rattle.std.proofs.Common.{◌≡◌, ℕ, ◌+◌, ◌/◌, ◌%◌, ◌<◌, ◌≤◌, Bool, true, false, ltb, List, [], ◌∷◌, ◌++◌, length, take, drop, set, refl, sym, ap, ◌∙◌, arith, length-drop, drop-cons}
+use Rattle.std.proofs.Common.{◌≡◌, ℕ, ◌+◌, ◌/◌, ◌%◌, ◌<◌, ◌≤◌, Bool, true, false, cond, ltb, List, [], ◌∷◌, ◌++◌, length, take, drop, set, refl, sym, ap, ◌∙◌, arith, length-drop, drop-cons}
 use mathlib.Core.Path.{subst}
 use lib.ListN.{length-set}
 use borrow.Author.Tests.{ltb-true, ltb-false}
@@ -14,6 +14,7 @@ use Rattle.octet.specs.Octets.{at, put_at}
 use Rattle.record.specs.LinkRecord.{link_of}
 use Rattle.event.specs.Frame.{param_at, number_at, message_of}
 use Rattle.event.proofs.Frame.{length_octets}
+use Rattle.signal.specs.SignalRecord.{body_of}
 use Rattle.signal.specs.Writing.{given, from_code, carrying_at, PutCode}
 use Rattle.signal.proofs.SignalRecord.{last_word, stored, with_body, with_end}
 use Rattle.signal.proofs.put_carrying.Goals as goal
@@ -99,19 +100,35 @@ returns-then-w-ge-RECEIVED_MESSAGE c =
       written = g.1 ∙ p.written ∙ ap (put_at a.out.now 4) q;
     }
 
-pub returns-then-w-ge-UNIT_INS : goal.returns-then-w-ge-UNIT_INS
-returns-then-w-ge-UNIT_INS c =
+-- a word that sends a unit is one of two
+either_unit : (o : Given) (m : List ℕ) (w : ℕ) (b : Bool) {s : Status} {d d₁ d₂ : List ℕ} {r : ℕ} → 42 ≤ w → w < 44 → ltb w 43 ≡ b → s ≡ cond b Status.NM Status.INS → 12 ≤ length d →
+    PutCode (carrying_at w) d 12 d₁ → (r ≡ 12 + length (unit_of s)) × (d₂ ≡ put_at d₁ 12 (unit_of s)) → PutCode (from_code m (meant_by o (word_at w))) d r d₂
+either_unit o m w true h k e z n p g =
+    let q : w ≡ 42 = omega (arith, ltb-true w 43 e) in
+    rw q (of_unit Status.NM w 42 q (unit_nm o m) refl n p (rw z at g))
+either_unit o m w false h k e z n p g =
+    let q : w ≡ 43 = omega (arith, ltb-false w 43 e) in
+    rw q (of_unit Status.INS w 43 q (unit_ins o m) refl n p (rw z at g))
+
+unit_long : (s : Status) → length (unit_of s) ≡ 4
+unfolding unit_of
+unit_long s = refl
+
+carries_unit : (o : Given) (m : List ℕ) (w : ℕ) (b : Bool) → 42 ≤ w → w < 44 → ltb w 43 ≡ b → length (body_of (meant_by o (word_at w)).carries m) ≡ 4
+carries_unit o m w true h k e = let q : w ≡ 42 = omega (arith, ltb-true w 43 e) in rw q (unit_long Status.NM)
+carries_unit o m w false h k e = let q : w ≡ 43 = omega (arith, ltb-false w 43 e) in rw q (unit_long Status.INS)
+
+pub with_unit-requires : goal.with_unit-requires
+with_unit-requires c =
     let a = c.args in
-    let q : a.w ≡ 43 = omega (arith, c.if-w-ge-UNIT_INS.true, c.if-w-ge-RECEIVED_MESSAGE.false) in
-    let u = written a.w c.carrying-eight.result a.out.now c.put_at.new.dst c.carrying-eight.ensures c.put_at.ensures in
-    rw q (of_unit Status.INS a.w 43 q (unit_ins (given (link_of a.left.now) a.e.now) (message_of a.e.now)) refl (omega (arith, c.requires.3)) u c.with_unit.ensures)
+    let h = carries_unit (given (link_of a.left.now) a.e.now) (message_of a.e.now) a.w (ltb a.w 43) c.if-w-ge-UNIT_NM.true (omega arith) refl in
+    omega (arith, h, unit_long c.unit_in.result, c.requires.3)
 
 pub returns-then-w-ge-UNIT_NM : goal.returns-then-w-ge-UNIT_NM
 returns-then-w-ge-UNIT_NM c =
     let a = c.args in
-    let q : a.w ≡ 42 = omega (arith, c.if-w-ge-UNIT_NM.true, c.if-w-ge-UNIT_INS.false) in
     let u = written a.w c.carrying-eight.result a.out.now c.put_at.new.dst c.carrying-eight.ensures c.put_at.ensures in
-    rw q (of_unit Status.NM a.w 42 q (unit_nm (given (link_of a.left.now) a.e.now) (message_of a.e.now)) refl (omega (arith, c.requires.3)) u c.with_unit-then-w-ge-UNIT_NM.ensures)
+    either_unit (given (link_of a.left.now) a.e.now) (message_of a.e.now) a.w (ltb a.w 43) c.if-w-ge-UNIT_NM.true (omega arith) refl c.unit_in.ensures (omega (arith, c.requires.3)) u c.with_unit.ensures
 
 pub returns-then-w-ge-ESTABLISH_REQUEST : goal.returns-then-w-ge-ESTABLISH_REQUEST
 returns-then-w-ge-ESTABLISH_REQUEST c =
