@@ -31,8 +31,8 @@
  *
  * Of the C library it needs memmove, and for DEADLINES memset; a later version may also need
  * memcpy, memcmp or bcmp. A step or a burst takes at most 256 octets of stack, a call of DEADLINES
- * at most 32, without what memmove and memset take, and sscf_changeover_write 16; the others take
- * their return address alone.
+ * at most 24, but sscf_deadlines_order 32, without what memmove and memset take, and
+ * sscf_changeover_write 16; the others take their return address alone.
  *
  * HOW A LINK COMES INTO SERVICE
  *
