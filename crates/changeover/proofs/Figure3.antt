@@ -5,10 +5,10 @@ use native.Mathlib.Omega.{arith}
 use mathlib.Core.Path.{◌≡◌, refl, sym, ap, ◌∙◌}
 use mathlib.Core.List.{List, [], ◌∷◌}
 use lib.ListN.{length}
+use Rattle.std.specs.Int.{w32, from_le_bytes}
 use Rattle.octet.specs.Octets.{at}
 use Rattle.changeover.specs.declared.Changeover.{Changeover}
 use Rattle.changeover.specs.Figure3.{SSF, Si, DPC, OPC, SLC, HEADING, FSN, figure3, held, octets_of, message_of}
-use Rattle.changeover.specs.Checked.{low_first}
 
 -- every field has room in the figure
 pub record Fits (m : Changeover) : Type 0 where
@@ -59,30 +59,41 @@ pub packed_codes : (m : Changeover) → Fits m →
     ∷ (m.dpc % 256)
     ∷ (codes m % 256)
     ∷ (codes m / 256 % 256)
-    ∷ (codes m / 65536)
+    ∷ (codes m / 65536 % 256)
     ∷ m.heading
     ∷ (m.number % 256)
     ∷ (m.number / 256 % 256)
-    ∷ (m.number / 65536)
+    ∷ (m.number / 65536 % 256)
     ∷ []
     ≡ octets_of m
 packed_codes m f =
     let f3 = f.dpc in
     let f4 = f.opc in
     let f5 = f.slc in
-    (cons refl (cons (omega arith) (cons (omega arith) (cons (omega arith) (cons (omega arith) refl))))) ∙ packed m f
+    let f7 = f.number in
+    (cons refl (cons (omega arith) (cons (omega arith) (cons (omega arith) (cons (omega arith) (cons refl (cons refl (cons refl (cons (omega arith) refl))))))))) ∙ packed m f
 
 pub octets_length : (m : Changeover) → length (octets_of m) ≡ 9
 unfolding octets_of
 octets_length m = refl
 
--- what the code takes out of nine octets
-abbrev pub taking : List ℕ → ℕ → ℕ → Changeover
-taking r n l =
-    record { ssf = at r 0 / 16; si = at r 0 % 16; dpc = l % 16384; opc = l / 16384 % 16384; slc = l / 268435456; heading = at r 5; number = n }
+-- four octets as a number, the low one first
+abbrev pub low_first : ℕ → ℕ → ℕ → ℕ → ℕ
+low_first a b c d = from_le_bytes w32 (a ∷ b ∷ c ∷ d ∷ [])
 
+-- what the code takes out of nine octets
 abbrev pub taken : List ℕ → Changeover
-taken r = taking r (low_first (at r 6) (at r 7) (at r 8) 0) (low_first (at r 1) (at r 2) (at r 3) (at r 4))
+taken r =
+    let label = low_first (at r 1) (at r 2) (at r 3) (at r 4) in
+    record {
+      ssf = at r 0 / 16;
+      si = at r 0 % 16;
+      dpc = label % 16384;
+      opc = label / 16384 % 16384;
+      slc = label / 268435456;
+      heading = at r 5;
+      number = low_first (at r 6) (at r 7) (at r 8) 0;
+    }
 
 -- each field as the figure has it in nine octets
 abbrev sum : ℕ → ℕ → ℕ → ℕ → ℕ → ℕ → ℕ → ℕ → ℕ → ℕ

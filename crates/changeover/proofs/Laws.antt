@@ -15,9 +15,8 @@ use Rattle.changeover.specs.declared.Changeover.{Changeover}
 use Rattle.changeover.specs.declared.Answer.{Answer}
 use Rattle.changeover.specs.Figure3.{octets_of, message_of}
 use Rattle.changeover.specs.Calls.{message_octets, XCO, XCA, checks, writing, Written, written, write_call, answered, nothing, read, read_call}
-use Rattle.changeover.specs.Checked.{low_first}
 use Rattle.changeover.specs.Laws.{Reread, Rewritten, RefusedUntouched, RefusedEmpty, EveryRead, NeverWide}
-use Rattle.changeover.proofs.Figure3.{Fits, label, packed, low_part, octets_length, taken, unpacked, held_ssf, held_si, held_dpc, held_opc, held_slc, held_heading, held_number}
+use Rattle.changeover.proofs.Figure3.{Fits, label, packed, low_part, octets_length, low_first, taken, unpacked, held_ssf, held_si, held_dpc, held_opc, held_slc, held_heading, held_number}
 use Rattle.changeover.proofs.Calls.{on_message, fits, write_accepted, read_accepted}
 
 -- REFUSALS

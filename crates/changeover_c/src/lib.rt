@@ -1,4 +1,5 @@
 // The calls of `changeover` for C hosts, each with its clauses: Q.2210's changeover messages written and read.
+// Twins of those of `changeover`, since C needs an object in which each stands under its own name.
 #![tactic(auto)]
 
 ghost use Rattle.std.specs.Prelude.{◌≡◌};
