@@ -1,23 +1,22 @@
 -- What the calls come to, by their checks: refused by one, or past all of them. Assumes nothing.
-use Prim.Native.Nat.{ℕ, zero, suc, ◌+◌, ◌-◌, ◌*◌, ◌/◌, ◌<◌, ◌≤◌}
+use Prim.Native.Nat.{ℕ, zero, suc, ◌+◌, ◌*◌, ◌/◌, ◌<◌, ◌≤◌}
 use native.Mathlib.Omega.{arith}
-use mathlib.Core.Path.{◌≡◌, refl, sym, ap, ◌∙◌}
-use mathlib.Core.Bool.{Bool, true, false, cond, not, ◌||◌}
-use mathlib.Core.List.{List, [], ◌∷◌, ◌++◌}
+use mathlib.Core.Path.{◌≡◌, refl, sym, ap}
+use mathlib.Core.Bool.{false, not, ◌&&◌, ◌||◌}
+use mathlib.Core.List.{List, [], ◌∷◌}
+use Rattle.std.specs.List.{list_any}
+use Rattle.std.proofs.lemmas.Bool.Decides.{nat_tests}
 use lib.Dec.{eqb, ltb, leb}
 use lib.ListN.{length, get_or}
-use borrow.Author.Tests.{eqb-true, eqb-false, ltb-false, leb-true, leb-false, le-leb, lt-leb, not-true, not-false}
-use Rattle.unit.specs.Checks.{Check, Verdict, passed, refused, first, number_of}
-use Rattle.unit.proofs.Checks.{clear, none_refuses, refusing}
+use borrow.Author.Tests.{eqb-true, eqb-false, ltb-false, leb-false, not-false}
+use Rattle.unit.specs.Checks.{Verdict, passed, first, number_of}
+use Rattle.unit.proofs.Checks.{clear, none_refuses}
 use Rattle.octet.proofs.Branches.{neither}
 use Rattle.keeper.specs.declared.DueAnswer.{DueAnswer}
-use Rattle.keeper.specs.Deadlines.{idle, last_time, with_time, order_of, followed}
-use Rattle.keeper.specs.Calls.{bad_lists, bad_periods, no_order, past_all, own_period, list_checks, due_checks, order_checks, keeping, kept, fresh_deadlines, fresh_call, order_call, answered, Names, DueCall}
+use Rattle.keeper.specs.Deadlines.{last_time, with_time, order_of, followed}
+use Rattle.keeper.specs.Calls.{bad_lists, bad_periods, no_order, past_all, own_period, due_checks, order_checks, keeping, kept, fresh_deadlines, fresh_call, order_call, Names, DueCall}
 
 -- GOOD LISTS
-pub few : (n : ℕ) → eqb n 0 || ltb 256 n ≡ false → n ≤ 256
-few n h = ltb-false 256 n (neither (eqb n 0) (ltb 256 n) h).1
-
 pub record Good (count n : ℕ) : Type 0 where
   pub some : 1 ≤ n
   pub most : n ≤ 256
@@ -35,30 +34,10 @@ good count n h =
       some zero z = absurd (z refl)
       some (suc n) z = omega arith
 
--- THE LISTS' CHECKS, before others: refused, or both past
-pub front_refused : (d p : List ℕ) (others : List (Check ℕ)) (n : ℕ) → n ≡ number_of (first (list_checks d p)) → (n ≡ 0 → ⊥) → n ≡ number_of (first (list_checks d p ++ others))
-front_refused d p others n e z = by (bad_lists (length d) (length p)) (bad_periods p) e where
-  by : (a b : Bool) → n ≡ number_of (cond a (refused 1) (cond b (refused 2) passed)) → n ≡ number_of (cond a (refused 1) (cond b (refused 2) (first others)))
-  by true b e = e
-  by false true e = e
-  by false false e = absurd (z e)
-
-pub front_passed : (d p : List ℕ) → number_of (first (list_checks d p)) ≡ 0 → (bad_lists (length d) (length p) ≡ false) × (bad_periods p ≡ false)
-front_passed d p h = let t = clear (list_checks d p) (none_refuses (list_checks d p) (omega arith, (omega arith, tt)) h) in (t.0, t.1.0)
-
--- DEADLINES THAT FIT: by what is left up to all ones
-pub by_the_rest : (time x : ℕ) → time ≤ idle → leb (idle - time) x ≡ leb idle (time + x)
-by_the_rest time x h = by (leb idle (time + x)) refl where
-  by : (b : Bool) → leb idle (time + x) ≡ b → leb (idle - time) x ≡ b
-  by true e = le-leb (idle - time) x (omega (arith, leb-true idle (time + x) e))
-  by false e = lt-leb (idle - time) x (omega (arith, leb-false idle (time + x) e))
-
--- what the test of a code tells
-pub order_is : {b n : Bool} → b ≡ not n → not b ≡ false → n ≡ false
-order_is {b} {n} e h = not-true n (sym e ∙ not-false b h)
-
-pub no_order_is : {b n : Bool} → b ≡ not n → not b ≡ true → n ≡ true
-no_order_is {b} {n} e h = not-false n (sym e ∙ not-true b h)
+-- THE PERIODS, as the code looks through them
+pub any_bad : (p : List ℕ) → list_any (λ x. not (leb 1 x && leb x 60000)) p ≡ bad_periods p
+any_bad [] = refl
+any_bad (x ∷ p) = grind (arith, nat_tests, any_bad p)
 
 -- A PERIOD that passed is at least 1
 pub period_some : (p : List ℕ) (i : ℕ) → bad_periods p ≡ false → i < length p → 1 ≤ get_or p i 0
@@ -106,18 +85,9 @@ pub due_passes : (d p : List ℕ) (time : ℕ) → number_of (first (due_checks 
 due_passes d p time h = none_refuses (due_checks d p time) (omega arith, (omega arith, (omega arith, tt))) h
 
 -- WHAT IS KEPT
-pub fresh_refused : (d : List ℕ) → bad_lists (length d) (length d / 3) ≡ true → keeping 1 d ≡ fresh_call d
-unfolding fresh_call
-fresh_refused d b = rw b
-
 pub fresh_made : (d : List ℕ) → bad_lists (length d) (length d / 3) ≡ false → keeping 0 (fresh_deadlines (length d / 3)) ≡ fresh_call d
 unfolding fresh_call
 fresh_made d b = rw b
-
-pub order_refused : (d p : List ℕ) (link c time n : ℕ) → n ≡ number_of (first (order_checks d p link c time)) → (n ≡ 0 → ⊥) → keeping n d ≡ order_call d p link c time
-unfolding order_call
-order_refused d p link c time n e z =
-    ap (λ (v : Verdict ℕ). kept v d (with_time time (followed (order_of c) d link (own_period p link) time) (length p))) (sym (refusing (first (order_checks d p link c time)) n e z))
 
 pub order_followed : (d p : List ℕ) (link c time : ℕ) → first (order_checks d p link c time) ≡ passed →
     keeping 0 (with_time time (followed (order_of c) d link (own_period p link) time) (length p)) ≡ order_call d p link c time
@@ -126,10 +96,6 @@ order_followed d p link c time h =
     ap (λ (v : Verdict ℕ). kept v d (with_time time (followed (order_of c) d link (own_period p link) time) (length p))) (sym h)
 
 -- AND WHAT IS TOLD
-pub due_refused : (d p : List ℕ) (time n : ℕ) → n ≡ number_of (first (due_checks d p time)) → (n ≡ 0 → ⊥) → DueCall d p time (answered n 0 0) d
-unfolding DueCall
-due_refused d p time n e z = rw (refusing (first (due_checks d p time)) n e z) (refl, refl)
-
 pub due_named : (d p : List ℕ) (time : ℕ) (a : DueAnswer) (after : List ℕ) → first (due_checks d p time) ≡ passed → Names d (length p) time a after → DueCall d p time a after
 unfolding DueCall
 due_named d p time a after h n = rw h n

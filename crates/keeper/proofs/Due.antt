@@ -1,30 +1,24 @@
 -- What the search finds is the earliest due, no two are, and how what is due changes as one is named. Assumes nothing.
-use Prim.Native.Nat.{ℕ, ◌+◌, ◌*◌, ◌/◌, ◌%◌, ◌<◌}
+use Prim.Native.Nat.{ℕ, ◌+◌, ◌-◌, ◌*◌, ◌/◌, ◌%◌, ◌<◌}
 use native.Mathlib.Omega.{arith}
 use mathlib.Core.Path.{◌≡◌, refl, sym, ap}
 use mathlib.Core.Bool.{Bool, true, false}
 use mathlib.Core.Logic.{◌⊎◌, inl, inr, ⊎_elim}
 use mathlib.Core.List.{List}
 use lib.Dec.{ltb, eqb}
-use lib.ListN.{get_or, set}
+use lib.ListN.{length, get_or, set}
+use Rattle.unit.specs.Checks.{passed, first}
+use Rattle.keeper.proofs.Calls.{due_past, due_named}
 use borrow.Author.Tests.{ltb-true, ltb-false, eqb-true, eqb-false}
 use Rattle.table6.specs.Cell.{Timer}
 use Rattle.keeper.specs.Deadlines.{idle, rank, place_of, deadline}
 use Rattle.keeper.specs.Due.{Before, EarliestDue, NothingDue, Named, nothing, one, Rightly}
-use Rattle.keeper.specs.Calls.{answered, Names}
-use Rattle.keeper.specs.Searched.{bound_of, FirstBelow, NoneBelow, Sought}
+use Rattle.keeper.specs.Calls.{due_checks, answered, Names, DueCall}
+use Rattle.keeper.specs.Searched.{bound_of, FirstBelow, NoneBelow}
 use Rattle.keeper.proofs.Places.{rank_below, timer_at, rank_at, place_back, place_below, same_rank, expiry_at}
 use Rattle.keeper.proofs.Search.{below_bound, due_below}
 
 -- WHAT THE SEARCH FINDS
-pub at_end : (d : List ℕ) (m bound place : ℕ) → Sought d m bound place → place ≡ m → NoneBelow d m bound
-at_end d m bound place (inl s) e = s.1
-at_end d m bound place (inr s) e = absurd (omega (arith, s.inside))
-
-pub inside_end : (d : List ℕ) (m bound place : ℕ) → Sought d m bound place → (place ≡ m → ⊥) → FirstBelow d m bound place
-inside_end d m bound place (inl s) z = absurd (z s.0)
-inside_end d m bound place (inr s) z = s
-
 pub none_due : (d : List ℕ) (n time : ℕ) → NoneBelow d (3 * n) (bound_of time) → NothingDue d n time
 none_due d n time f j s h u = omega (arith, f (place_of j s) (place_below n j s h), due_below time (deadline d j s) u.0 u.1)
 
@@ -55,6 +49,18 @@ names_found d n time place f =
       answer = ap (λ (x : ℕ). answered 0 x (place / 3)) (sym (expiry_at place));
       list = ap (λ (k : ℕ). set (set d k idle) (3 * n) time) (sym (place_back place));
     }
+
+-- the last time stands at the list's end
+at_end : (d p : List ℕ) (time : ℕ) → first (due_checks d p time) ≡ passed → length d - 1 ≡ 3 * length p
+at_end d p time h = omega (arith, (due_past d p time h).lists.full)
+
+pub none_told : (d p : List ℕ) (time below : ℕ) → passed ≡ first (due_checks d p time) → below ≡ bound_of time → NoneBelow d (3 * length p) below →
+    DueCall d p time (answered 0 0 0) (set d (length d - 1) time)
+none_told d p time below h e f = rw (at_end d p time (sym h)) (due_named d p time _ _ (sym h) (names_none d (length p) time (rw e at f)))
+
+pub found_told : (d p : List ℕ) (time below place : ℕ) → passed ≡ first (due_checks d p time) → below ≡ bound_of time → FirstBelow d (3 * length p) below place →
+    DueCall d p time (answered 0 (48 + place % 3) (place / 3)) (set (set d place idle) (length d - 1) time)
+found_told d p time below place h e f = rw (at_end d p time (sym h)) (due_named d p time _ _ (sym h) (names_found d (length p) time place (rw e at f)))
 
 -- WHICH ONE: a link's timer is another's or not
 abbrev pub Same : ℕ → Timer → ℕ → Timer → Type 0

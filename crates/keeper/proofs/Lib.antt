@@ -1,7 +1,6 @@
 pub mod Places
 pub mod Search
 pub mod Calls
-pub mod Orders
 pub mod Lists
 pub mod Due
 pub mod OneAnswer

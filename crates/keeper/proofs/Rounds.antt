@@ -221,12 +221,12 @@ less_next p time d place h f =
 
 ends : (fuel : ℕ) (p : List ℕ) (time : ℕ) (d : List ℕ) → first (due_checks d p time) ≡ passed → running d (3 * length p) ≤ fuel → (names : List Of) × Round p time d names
 ends zero p time d h b =
-    ⊎_elim (λ f. finish p time d h f) (λ w. absurd (omega (arith, less_next p time d w.0 h w.1))) (search_all d (bound_of time) (length p))
+    ⊎_elim (λ f. finish p time d h f) (λ w. absurd (omega (arith, less_next p time d w.0 h w.1))) (search_all d (bound_of time) (3 * length p))
 ends (suc fuel) p time d h b =
     ⊎_elim
     (λ f. finish p time d h f)
     (λ w. go_on p time d w.0 h w.1 (ends fuel p time (next d (length p) time w.0) (passes_next p time d w.0 h w.1) (omega (arith, less_next p time d w.0 h w.1))))
-    (search_all d (bound_of time) (length p))
+    (search_all d (bound_of time) (3 * length p))
 
 pub round_ends : RoundEnds
 round_ends p time d h = ends (running d (3 * length p)) p time d h (omega arith)

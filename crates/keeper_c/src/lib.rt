@@ -1,4 +1,5 @@
 // The calls of `keeper` for C hosts, each with its clauses: a list of deadlines made, orders followed, and what is due named.
+// Twins of those of `keeper`, since C needs an object in which each stands under its own name.
 #![tactic(auto)]
 
 ghost use Rattle.std.specs.Prelude.{◌≡◌};
