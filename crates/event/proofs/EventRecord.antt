@@ -2,65 +2,60 @@
 use Prim.Native.Nat.{ℕ, ◌≤◌}
 use native.Mathlib.Omega.{arith}
 use mathlib.Core.Path.{◌≡◌, refl, sym, ap, subst, ◌∙◌}
-use mathlib.Core.Bool.{Bool, true, false, cond, not, ◌&&◌, ◌||◌, true≢false}
+use mathlib.Core.Bool.{Bool, true, false, cond, not, ◌&&◌, true≢false}
 use mathlib.Core.List.{List, [], ◌∷◌}
+use Rattle.std.proofs.Common.{Result, Ok, Err, MatchResult, IsErrAnd}
 use lib.Dec.{eqb, leb}
 use lib.ListN.{length}
-use borrow.Author.Tests.{leb-false, eqb-true, ne_eqb, not-false, not-true}
+use borrow.Author.Tests.{leb-false, eqb-true, not-false}
 use Rattle.table6.specs.RefusalCodes.{REFUSED-CODE, REFUSED-FRAME}
 use Rattle.unit.specs.declared.Arrived.{Arrived}
-use Rattle.unit.specs.Unit.{arrived, none_or_status}
+use Rattle.unit.specs.Unit.{arrived}
 use Rattle.unit.specs.Checks.{Verdict, passed, refused, first}
 use Rattle.unit.proofs.Checks.{clear}
-use Rattle.table6.specs.EventCodes.{MESSAGE-FOR-TRANSMISSION, EMERGENCY, EMERGENCY-CEASES, STOP, START, RETRIEVE-BSNT, RETRIEVAL-REQUEST-AND-FSNC, FLUSH-BUFFERS, CONTINUE}
-use Rattle.table6.specs.EventCodes.{ESTABLISH-indication, ESTABLISH-confirm, RELEASE-indication, RELEASE-confirm, DATA-indication, RESYNC-indication, RECOVER-indication}
-use Rattle.table6.specs.EventCodes.{UNITDATA-indication, RETRIEVE-indication, RETRIEVE-COMPLETE-indication}
-use Rattle.table6.specs.EventCodes.{PROVING-UNSUCCESSFUL, RELEASE, OUTAGE, RECOVERED, FORCE-PROVING, FORCE-EMERGENCY, CLEAR-FORCE-MODES, CONGESTION, CONGESTION-CEASED}
-use Rattle.table6.specs.EventCodes.{T1-expired, T2-expired, T3-expired}
+use Rattle.table6.specs.EventCodes.{RELEASE-indication, T3-expired}
 use Rattle.table6.proofs.Every.{left, right}
 use Rattle.link.specs.declared.Num.{Num}
 use Rattle.link.specs.declared.Event.{Event}
 use Rattle.link.specs.declared.Event.TheVariants as event
 use Rattle.link.specs.Signal.{num, none}
 use Rattle.link.specs.Stored.{bare_view, view_of, number_in}
-use Rattle.event.specs.declared.Reading.{Reading}
+use Rattle.event.specs.declared.Unread.{Unread}
 use Rattle.event.specs.declared.Fault.{Fault}
 use Rattle.event.specs.declared.Look.{Look}
-use Rattle.octet.specs.Octets.{at}
-use Rattle.octet.proofs.Branches.{neither}
 use Rattle.event.specs.Frame.{EV, length_at, link_at, number_at, message_of, code_at, param_at, written}
-use Rattle.event.specs.Fields.{is_zero, is_source, fields, not_carried, out_of_range, field_checks}
+use Rattle.event.specs.Fields.{is_zero, is_source, fields, field_checks}
 use Rattle.event.specs.EventRecord.{framed, events, Coded, among, Each, coded_at, coded_in, said, event_of, unknown, fields_in, Refused, ◌at_place◌}
 use Rattle.event.specs.EventRecord.{reading, fitting, saying, fields_of, reading_of, Holds, Carried, carrying, carried, Rewritten, Reread}
-use Rattle.event.specs.Look.{Seen}
+use Rattle.event.specs.Look.{Seen, faulty}
 use Rattle.event.proofs.Fields.{has_parameter, has_number, parameter_not_carried, number_not_carried, source_out_of_range}
 use Rattle.event.proofs.Frame.{frame_rewritten, frame_reread, two_back}
 
 -- WHAT A READING TELLS of the tests in it: whether the frame is sound, what the code says, and whether its fields pass
 
-abbrev pub Told : Reading → Bool → Coded → Verdict Fault → Type 0
-Told Reading.BadFrame f x v = f ≡ false
-Told Reading.UnknownCode f x v = (f ≡ true) × (unknown x ≡ true)
-Told (Reading.Misfit g) f x v = (f ≡ true) × (unknown x ≡ false) × (v ≡ refused g)
-Told Reading.Fits f x v = (f ≡ true) × (unknown x ≡ false) × (v ≡ passed)
+abbrev pub Told : Result (Unit {0}) Unread → Bool → Coded → Verdict Fault → Type 0
+Told (Ok fits) f x v = (f ≡ true) × (unknown x ≡ false) × (v ≡ passed)
+Told (Err Unread.BadFrame) f x v = f ≡ false
+Told (Err Unread.UnknownCode) f x v = (f ≡ true) × (unknown x ≡ true)
+Told (Err (Unread.Misfit g)) f x v = (f ≡ true) × (unknown x ≡ false) × (v ≡ refused g)
 
 -- the reading of an answer
 abbrev fault_of : Refused → Fault
 fault_of r = cond (eqb r.number 10) (Fault.NotCarried r.place) (cond (eqb r.number 11) (Fault.OutOfRange r.place) (Fault.Short r.place))
 
-abbrev back : Verdict Refused → Reading
-back (refused r) = cond (eqb r.number 2) Reading.BadFrame (cond (eqb r.number 3) Reading.UnknownCode (Reading.Misfit (fault_of r)))
-back passed = Reading.Fits
+abbrev back : Verdict Refused → Result (Unit {0}) Unread
+back (refused r) = Err (cond (eqb r.number 2) Unread.BadFrame (cond (eqb r.number 3) Unread.UnknownCode (Unread.Misfit (fault_of r))))
+back passed = Ok tt
 
-back_is : (r : Reading) → back (reading r) ≡ r
-back_is Reading.BadFrame = refl
-back_is Reading.UnknownCode = refl
-back_is (Reading.Misfit (Fault.NotCarried q)) = refl
-back_is (Reading.Misfit (Fault.OutOfRange q)) = refl
-back_is (Reading.Misfit (Fault.Short q)) = refl
-back_is Reading.Fits = refl
+back_is : (r : Result (Unit {0}) Unread) → back (reading r) ≡ r
+back_is (Ok fits) = refl
+back_is (Err Unread.BadFrame) = refl
+back_is (Err Unread.UnknownCode) = refl
+back_is (Err (Unread.Misfit (Fault.NotCarried q))) = refl
+back_is (Err (Unread.Misfit (Fault.OutOfRange q))) = refl
+back_is (Err (Unread.Misfit (Fault.Short q))) = refl
 
-pub one_reading : (r s : Reading) → reading r ≡ reading s → r ≡ s
+pub one_reading : (r s : Result (Unit {0}) Unread) → reading r ≡ reading s → r ≡ s
 one_reading r s h = sym (back_is r) ∙ ap back h ∙ back_is s
 
 tells : (f : Bool) (x : Coded) (v : Verdict Fault) → Told (back (cond f (saying x v) (refused (REFUSED-FRAME at_place 0)))) f x v
@@ -71,112 +66,15 @@ tells true (Coded.Of x) (refused (Fault.OutOfRange q)) = (refl, refl, refl)
 tells true (Coded.Of x) (refused (Fault.Short q)) = (refl, refl, refl)
 tells true (Coded.Of x) passed = (refl, refl, refl)
 
-abbrev pub ToldOf : List ℕ → Reading → Type 0
+abbrev pub ToldOf : List ℕ → Result (Unit {0}) Unread → Type 0
 ToldOf e r = Told r (framed e) (coded_in e) (first (field_checks (code_at e) (fields_in e)))
 
-pub reading_tells : (e : List ℕ) (r : Reading) → reading r ≡ reading_of e → ToldOf e r
+pub reading_tells : (e : List ℕ) (r : Result (Unit {0}) Unread) → reading r ≡ reading_of e → ToldOf e r
 unfolding reading_of fields_of
 reading_tells e r h =
     subst (ToldOf e) (ap back (sym h) ∙ back_is r) (tells (framed e) (coded_in e) (first (field_checks (code_at e) (fields_in e))))
 
--- WHAT A LOOK AT A CODE TELLS
-
-by_look : (e : List ℕ) (b : Bool) → unknown (coded_in e) ≡ false → (b ≡ true → first (field_checks (code_at e) (fields_in e)) ≡ passed) → Seen e (cond b Look.Fits Look.Closer)
-by_look e true h p = (h, p refl)
-by_look e false h p = h
-
--- the code is known
-abbrev Known : List ℕ → ℕ → Type 0
-Known e c = unknown (coded_at c (param_at e) (number_at e) (length_at e) (arrived (message_of e))) ≡ false
-
--- by a test which, where it holds, has all fields pass
-seen_at : (e : List ℕ) (c : ℕ) (b : Bool) {r : Look} → at e 4 ≡ c → Known e c → (b ≡ true → first (field_checks c (fields_in e)) ≡ passed) → r ≡ cond b Look.Fits Look.Closer → Seen e r
-seen_at e c b k u p h = subst (Seen e) (sym h) (by_look e b (rw k u) (λ t. rw k (p t)))
-
--- three tests that are left of the six, and those three asked in another order
-abbrev three_left : Bool → Bool → Bool → Fault → Fault → Fault → Verdict Fault
-three_left x y z f g h = cond x (refused f) (cond y (refused g) (cond z (refused h) passed))
-
-none_left : (x y z : Bool) (f g h : Fault) → x ≡ false → y ≡ false → z ≡ false → three_left x y z f g h ≡ passed
-none_left x y z f g h p q r = rw (p, q, r)
-
-none_of : (x y z : Bool) → not (x || y || z) ≡ true → (x ≡ false) × (y ≡ false) × (z ≡ false)
-none_of x y z h =
-    let g = neither (x || y) z (not-true _ h) in
-    let f = neither x y g.0 in
-    (f.0, f.1, g.1)
-
-pub bare_at : (e : List ℕ) (c : ℕ) {r : Look} → at e 4 ≡ c → Known e c →
-    first (field_checks c (fields_in e)) ≡ three_left (leb 1 (param_at e)) (not (is_zero (number_at e))) (leb 1 (length_at e)) (Fault.NotCarried 5) (Fault.NotCarried 6) (Fault.NotCarried 10) →
-    r ≡ cond (not (leb 1 (length_at e) || not (is_zero (number_at e)) || leb 1 (param_at e))) Look.Fits Look.Closer → Seen e r
-bare_at e c k u f h =
-    let x = leb 1 (param_at e) in
-    let y = not (is_zero (number_at e)) in
-    let z = leb 1 (length_at e) in
-    seen_at e c (not (z || y || x)) k u (λ t. let g = none_of z y x t in f ∙ none_left x y z (Fault.NotCarried 5) (Fault.NotCarried 6) (Fault.NotCarried 10) g.2 g.1 g.0) h
-
-pub established_at : (e : List ℕ) (c : ℕ) {r : Look} → at e 4 ≡ c → Known e c →
-    first (field_checks c (fields_in e)) ≡ three_left (not (is_zero (number_at e))) (leb 1 (length_at e)) (not (none_or_status (param_at e))) (Fault.NotCarried 6) (Fault.NotCarried 10) (Fault.OutOfRange 5) →
-    r ≡ cond (not (leb 1 (length_at e) || not (is_zero (number_at e)) || not (none_or_status (param_at e)))) Look.Fits Look.Closer → Seen e r
-established_at e c k u f h =
-    let x = not (is_zero (number_at e)) in
-    let y = leb 1 (length_at e) in
-    let z = not (none_or_status (param_at e)) in
-    seen_at e c (not (y || x || z)) k u (λ t. let g = none_of y x z t in f ∙ none_left x y z (Fault.NotCarried 6) (Fault.NotCarried 10) (Fault.OutOfRange 5) g.1 g.0 g.2) h
-
--- no number is the far user
-far_user : (n : Num) → not (is_zero n) ≡ false → not (is_source n) ≡ false
-far_user n h =
-    let w = not-false (is_zero n) h in
-    let c = eqb-true n.c 0 (right (eqb n.a 0 && eqb n.b 0) (eqb n.c 0) w) in
-    rw (left (eqb n.a 0 && eqb n.b 0) (eqb n.c 0) w, c)
-
-pub release_at : (e : List ℕ) {r : Look} → at e 4 ≡ RELEASE-indication → r ≡ cond (not (leb 1 (length_at e) || not (is_zero (number_at e)) || not (none_or_status (param_at e)))) Look.Fits Look.Closer → Seen e r
-unfolding coded_at not_carried out_of_range
-release_at e k h =
-    let x = leb 1 (length_at e) in
-    let y = not (is_zero (number_at e)) in
-    let z = not (none_or_status (param_at e)) in
-    seen_at e RELEASE-indication (not (x || y || z)) k refl
-    (λ t. let g = none_of x y z t in none_left x z (not (is_source (number_at e))) (Fault.NotCarried 10) (Fault.OutOfRange 5) (Fault.OutOfRange 6) g.0 g.2 (far_user (number_at e) g.1)) h
-
-pub congestion_at : (e : List ℕ) {r : Look} → at e 4 ≡ CONGESTION → r ≡ cond (not (leb 1 (length_at e) || not (is_zero (number_at e)) || not (leb (param_at e) 3))) Look.Fits Look.Closer → Seen e r
-unfolding coded_at not_carried out_of_range
-congestion_at e k h =
-    let x = leb 1 (length_at e) in
-    let y = not (is_zero (number_at e)) in
-    let z = not (leb (param_at e) 3) in
-    seen_at e CONGESTION (not (x || y || z)) k refl (λ t. let g = none_of x y z t in none_left y x z (Fault.NotCarried 6) (Fault.NotCarried 10) (Fault.OutOfRange 5) g.1 g.0 g.2) h
-
-pub message_at : (e : List ℕ) {r : Look} → at e 4 ≡ MESSAGE-FOR-TRANSMISSION → r ≡ cond (not (not (is_zero (number_at e)) || leb 1 (param_at e) || not (leb 5 (length_at e)))) Look.Fits Look.Closer → Seen e r
-unfolding coded_at not_carried out_of_range
-message_at e k h =
-    let x = leb 1 (param_at e) in
-    let y = not (is_zero (number_at e)) in
-    let z = not (leb 5 (length_at e)) in
-    seen_at e MESSAGE-FOR-TRANSMISSION (not (y || x || z)) k refl (λ t. let g = none_of y x z t in none_left x y z (Fault.NotCarried 5) (Fault.NotCarried 6) (Fault.Short 10) g.1 g.0 g.2) h
-
--- two tests alone
-pub retrieval_at : (e : List ℕ) {r : Look} → at e 4 ≡ RETRIEVAL-REQUEST-AND-FSNC → r ≡ cond (not (leb 1 (length_at e) || leb 1 (param_at e))) Look.Fits Look.Closer → Seen e r
-unfolding coded_at not_carried out_of_range
-retrieval_at e k h =
-    let x = leb 1 (param_at e) in
-    let y = leb 1 (length_at e) in
-    seen_at e RETRIEVAL-REQUEST-AND-FSNC (not (y || x)) k refl (λ t. let g = neither y x (not-true (y || x) t) in rw (g.0, g.1)) h
-
-pub unnumbered_at : (e : List ℕ) (c : ℕ) {r : Look} → at e 4 ≡ c → Known e c →
-    first (field_checks c (fields_in e)) ≡ cond (leb 1 (param_at e)) (refused (Fault.NotCarried 5)) (cond (not (is_zero (number_at e))) (refused (Fault.NotCarried 6)) passed) →
-    r ≡ cond (not (not (is_zero (number_at e)) || leb 1 (param_at e))) Look.Fits Look.Closer → Seen e r
-unnumbered_at e c k u f h =
-    let x = leb 1 (param_at e) in
-    let y = not (is_zero (number_at e)) in
-    seen_at e c (not (y || x)) k u (λ t. let g = neither y x (not-true (y || x) t) in f ∙ rw (g.0, g.1)) h
-
-pub data_at : (e : List ℕ) {r : Look} → at e 4 ≡ DATA-indication → r ≡ cond (not (leb 1 (param_at e))) Look.Fits Look.Closer → Seen e r
-unfolding coded_at not_carried out_of_range
-data_at e k h = seen_at e DATA-indication (not (leb 1 (param_at e))) k refl (λ t. rw (not-true (leb 1 (param_at e)) t)) h
-
--- AND WHAT IT COMES TO
+-- WHAT A LOOK AT THE CODE AND AT THE FIELDS COMES TO
 
 told_unknown : (x : Coded) (v : Verdict Fault) → unknown x ≡ true → refused (REFUSED-CODE at_place 0) ≡ saying x v
 told_unknown Coded.Unknown v h = refl
@@ -194,48 +92,14 @@ pub fields_known : (e : List ℕ) → unknown (coded_in e) ≡ false → fitting
 unfolding fields_of
 fields_known e h = told_known (coded_in e) (first (field_checks (code_at e) (fields_in e))) h
 
--- none of some numbers, the last first
-abbrev pub NoneOf : List ℕ → ℕ → Type 0
-NoneOf [] c = Unit {0}
-NoneOf (k ∷ ks) c = NoneOf ks c × (c ≡ k → ⊥)
+pub fields_fit : (e : List ℕ) → Seen e Look.Fits → passed ≡ fields_of e
+fields_fit e h = sym (ap fitting h.1) ∙ fields_known e h.0
 
-pub no_more : (c p : ℕ) (n : Num) (len : ℕ) (a : Arrived) →
-    NoneOf (T3-expired ∷ T2-expired ∷ T1-expired ∷ CONGESTION-CEASED ∷ CONGESTION ∷ CLEAR-FORCE-MODES ∷ FORCE-EMERGENCY ∷ FORCE-PROVING ∷ RECOVERED ∷ OUTAGE ∷ RELEASE ∷ PROVING-UNSUCCESSFUL ∷ RETRIEVE-COMPLETE-indication ∷ RETRIEVE-indication ∷ UNITDATA-indication ∷ RECOVER-indication ∷ RESYNC-indication ∷ DATA-indication ∷ RELEASE-confirm ∷ RELEASE-indication ∷ ESTABLISH-confirm ∷ ESTABLISH-indication ∷ CONTINUE ∷ FLUSH-BUFFERS ∷ RETRIEVAL-REQUEST-AND-FSNC ∷ RETRIEVE-BSNT ∷ START ∷ STOP ∷ EMERGENCY-CEASES ∷ EMERGENCY ∷ MESSAGE-FOR-TRANSMISSION ∷ []) c → coded_at c p n len a ≡ Coded.Unknown
-unfolding coded_at
-no_more c p n len a r =
-    simp (
-      ne_eqb _ _ r.0.0.0.0.0.0.0.0.0.0.0.0.0.0.0.0.0.0.0.0.0.0.0.0.0.0.0.0.0.0.1,
-      ne_eqb _ _ r.0.0.0.0.0.0.0.0.0.0.0.0.0.0.0.0.0.0.0.0.0.0.0.0.0.0.0.0.0.1,
-      ne_eqb _ _ r.0.0.0.0.0.0.0.0.0.0.0.0.0.0.0.0.0.0.0.0.0.0.0.0.0.0.0.0.1,
-      ne_eqb _ _ r.0.0.0.0.0.0.0.0.0.0.0.0.0.0.0.0.0.0.0.0.0.0.0.0.0.0.0.1,
-      ne_eqb _ _ r.0.0.0.0.0.0.0.0.0.0.0.0.0.0.0.0.0.0.0.0.0.0.0.0.0.0.1,
-      ne_eqb _ _ r.0.0.0.0.0.0.0.0.0.0.0.0.0.0.0.0.0.0.0.0.0.0.0.0.0.1,
-      ne_eqb _ _ r.0.0.0.0.0.0.0.0.0.0.0.0.0.0.0.0.0.0.0.0.0.0.0.0.1,
-      ne_eqb _ _ r.0.0.0.0.0.0.0.0.0.0.0.0.0.0.0.0.0.0.0.0.0.0.0.1,
-      ne_eqb _ _ r.0.0.0.0.0.0.0.0.0.0.0.0.0.0.0.0.0.0.0.0.0.0.1,
-      ne_eqb _ _ r.0.0.0.0.0.0.0.0.0.0.0.0.0.0.0.0.0.0.0.0.0.1,
-      ne_eqb _ _ r.0.0.0.0.0.0.0.0.0.0.0.0.0.0.0.0.0.0.0.0.1,
-      ne_eqb _ _ r.0.0.0.0.0.0.0.0.0.0.0.0.0.0.0.0.0.0.0.1,
-      ne_eqb _ _ r.0.0.0.0.0.0.0.0.0.0.0.0.0.0.0.0.0.0.1,
-      ne_eqb _ _ r.0.0.0.0.0.0.0.0.0.0.0.0.0.0.0.0.0.1,
-      ne_eqb _ _ r.0.0.0.0.0.0.0.0.0.0.0.0.0.0.0.0.1,
-      ne_eqb _ _ r.0.0.0.0.0.0.0.0.0.0.0.0.0.0.0.1,
-      ne_eqb _ _ r.0.0.0.0.0.0.0.0.0.0.0.0.0.0.1,
-      ne_eqb _ _ r.0.0.0.0.0.0.0.0.0.0.0.0.0.1,
-      ne_eqb _ _ r.0.0.0.0.0.0.0.0.0.0.0.0.1,
-      ne_eqb _ _ r.0.0.0.0.0.0.0.0.0.0.0.1,
-      ne_eqb _ _ r.0.0.0.0.0.0.0.0.0.0.1,
-      ne_eqb _ _ r.0.0.0.0.0.0.0.0.0.1,
-      ne_eqb _ _ r.0.0.0.0.0.0.0.0.1,
-      ne_eqb _ _ r.0.0.0.0.0.0.0.1,
-      ne_eqb _ _ r.0.0.0.0.0.0.1,
-      ne_eqb _ _ r.0.0.0.0.0.1,
-      ne_eqb _ _ r.0.0.0.0.1,
-      ne_eqb _ _ r.0.0.0.1,
-      ne_eqb _ _ r.0.0.1,
-      ne_eqb _ _ r.0.1,
-      ne_eqb _ _ r.1,
-    )
+-- a fault that is answered as a misfit is read as that fault
+pub told_misfit : (r : Result (Unit {0}) Fault) (s : Result (Unit {0}) Unread) → MatchResult r (λ x. s ≡ Ok x) (λ f. IsErrAnd s (λ u. u ≡ Unread.Misfit f)) → reading s ≡ fitting (faulty r)
+told_misfit (Ok fits) s h = ap reading h
+told_misfit (Err f) (Ok fits) h = absurd h
+told_misfit (Err f) (Err u) h = ap (λ (v : Unread). reading (Err v)) h
 
 -- WHAT A CODE SAYS, of all codes at once
 
@@ -319,7 +183,7 @@ known Coded.Unknown h = absurd (true≢false h)
 known (Coded.Of x) h = refl
 
 -- an event that fits carries what its octets have
-module _ (e : List ℕ) (r : ToldOf e Reading.Fits) where
+module _ (e : List ℕ) (r : ToldOf e (Ok tt)) where
   coded_as : coded_in e ≡ Coded.Of (event_of e)
   coded_as = known (coded_in e) r.1
 
@@ -339,7 +203,7 @@ module _ (e : List ℕ) (r : ToldOf e Reading.Fits) where
 
 pub rewritten : Rewritten
 rewritten e l x o h =
-    let r = reading_tells e Reading.Fits (sym h.fits) in
+    let r = reading_tells e (Ok tt) (sym h.fits) in
     let k = ap carried (sym h.event) ∙ fits_whole e r in
     (λ i. written EV (sym h.link i) (k i).code (k i).param (k i).num (message_of e)) ∙ frame_rewritten EV e o r.0
 

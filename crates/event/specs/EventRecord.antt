@@ -1,5 +1,5 @@
 -- The event record of document 01: when its frame is sound, what a code says, and whether its fields fit it.
-use Rattle.std.specs.Prelude.{ℕ, ◌≤◌, ◌≡◌, Bool, true, false, cond, List, [], ◌∷◌, eqb, length}
+use Rattle.std.specs.Prelude.{ℕ, ◌≤◌, ◌≡◌, Bool, true, false, cond, List, [], ◌∷◌, Result, Ok, Err, eqb, length}
 use Rattle.unit.specs.declared.Arrived.{Arrived}
 use Rattle.unit.specs.Unit.{arrived}
 use Rattle.unit.specs.Checks.{Verdict, passed, refused, first}
@@ -12,7 +12,7 @@ use Rattle.table6.specs.RefusalCodes.{REFUSED-FRAME, REFUSED-CODE}
 use Rattle.link.specs.declared.Num.{Num}
 use Rattle.link.specs.declared.Event.{Event}
 use Rattle.link.specs.declared.Event.TheVariants as event
-use Rattle.event.specs.declared.Reading.{Reading}
+use Rattle.event.specs.declared.Unread.{Unread}
 use Rattle.event.specs.declared.Fault.{Fault}
 use Rattle.link.specs.Signal.{num, none}
 use Rattle.octet.specs.Octets.{Octets}
@@ -144,11 +144,11 @@ abbrev pub ◌at_place◌ : ℕ → ℕ → Refused
 n at_place q = record { number = n; place = q }
 
 -- The reader's answers in the papers' numbers. A sound record brings no value with it: what it holds is read off its octets.
-abbrev pub reading : Reading → Verdict Refused
-reading Reading.BadFrame = refused (REFUSED-FRAME at_place 0)
-reading Reading.UnknownCode = refused (REFUSED-CODE at_place 0)
-reading (Reading.Misfit f) = refused (fault_number f at_place fault_place f)
-reading Reading.Fits = passed
+abbrev pub reading : Result (Unit {0}) Unread → Verdict Refused
+reading (Ok fits) = passed
+reading (Err Unread.BadFrame) = refused (REFUSED-FRAME at_place 0)
+reading (Err Unread.UnknownCode) = refused (REFUSED-CODE at_place 0)
+reading (Err (Unread.Misfit f)) = refused (fault_number f at_place fault_place f)
 
 abbrev pub fitting : Verdict Fault → Verdict Refused
 fitting passed = passed

@@ -1,4 +1,5 @@
 -- The items of A.6: a call is taken where no check refuses its event and Table 6 has a cell for it, and turns follow one another. Assumes nothing.
+use Rattle.std.specs.Prelude.{Option, Some, None}
 use mathlib.Core.Path.{◌≡◌, refl, sym, ap, subst, ◌∙◌}
 use mathlib.Core.Bool.{Bool, true, false, cond, not, true≢false}
 use mathlib.Core.List.{List, [], ◌∷◌, ◌++◌, map}
@@ -8,7 +9,6 @@ use lib.Dec.{eqb}
 use lib.ListN.{length}
 use borrow.Author.Tests.{eqb-true, eqb-false, ne_eqb, le-ltb, le-leb, lt-leb}
 use Rattle.unit.specs.declared.Status.{Status}
-use Rattle.unit.specs.declared.Field.{Field}
 use Rattle.unit.specs.declared.Arrived.{Arrived}
 use Rattle.unit.specs.declared.Mps.{Mps}
 use Rattle.unit.specs.declared.Ups.{Ups}
@@ -261,30 +261,30 @@ unfolding coded_at not_carried out_of_range decoded
 hands_confirm Ups.Normal k = hands k ESTABLISH-confirm (asking Ups.Normal) none [] (omega arith) refl refl
 hands_confirm Ups.Emergency k = hands k ESTABLISH-confirm (asking Ups.Emergency) none [] (omega arith) refl refl
 
-hands_release : (s : Source) (f : Field) (k : ℕ) → Hands (released s f k) k RELEASE-indication (event.ReleaseIndication (coded f) (sourced s))
+hands_release : (s : Source) (f : Option Status) (k : ℕ) → Hands (released s f k) k RELEASE-indication (event.ReleaseIndication (coded f) (sourced s))
 unfolding coded_at not_carried out_of_range decoded
 hands_release s f k = hands k RELEASE-indication (coded f) (num 0 0 (sourced s)) [] (omega arith) refl (fitting s f) where
-  fitting : (s : Source) (f : Field) → checks.first (field_checks RELEASE-indication (fields (coded f) (num 0 0 (sourced s)) 0)) ≡ checks.passed
-  fitting Source.User (Field.Named Status.OOS) = refl
-  fitting Source.User (Field.Named Status.PO) = refl
-  fitting Source.User (Field.Named Status.INS) = refl
-  fitting Source.User (Field.Named Status.NM) = refl
-  fitting Source.User (Field.Named Status.EM) = refl
-  fitting Source.User (Field.Named Status.ANS) = refl
-  fitting Source.User (Field.Named Status.MI) = refl
-  fitting Source.User (Field.Named Status.PE) = refl
-  fitting Source.User (Field.Named Status.PNS) = refl
-  fitting Source.SSCOP (Field.Named Status.OOS) = refl
-  fitting Source.SSCOP (Field.Named Status.PO) = refl
-  fitting Source.SSCOP (Field.Named Status.INS) = refl
-  fitting Source.SSCOP (Field.Named Status.NM) = refl
-  fitting Source.SSCOP (Field.Named Status.EM) = refl
-  fitting Source.SSCOP (Field.Named Status.ANS) = refl
-  fitting Source.SSCOP (Field.Named Status.MI) = refl
-  fitting Source.SSCOP (Field.Named Status.PE) = refl
-  fitting Source.SSCOP (Field.Named Status.PNS) = refl
-  fitting Source.User Field.Unnamed = refl
-  fitting Source.SSCOP Field.Unnamed = refl
+  fitting : (s : Source) (f : Option Status) → checks.first (field_checks RELEASE-indication (fields (coded f) (num 0 0 (sourced s)) 0)) ≡ checks.passed
+  fitting Source.User (Some Status.OOS) = refl
+  fitting Source.User (Some Status.PO) = refl
+  fitting Source.User (Some Status.INS) = refl
+  fitting Source.User (Some Status.NM) = refl
+  fitting Source.User (Some Status.EM) = refl
+  fitting Source.User (Some Status.ANS) = refl
+  fitting Source.User (Some Status.MI) = refl
+  fitting Source.User (Some Status.PE) = refl
+  fitting Source.User (Some Status.PNS) = refl
+  fitting Source.SSCOP (Some Status.OOS) = refl
+  fitting Source.SSCOP (Some Status.PO) = refl
+  fitting Source.SSCOP (Some Status.INS) = refl
+  fitting Source.SSCOP (Some Status.NM) = refl
+  fitting Source.SSCOP (Some Status.EM) = refl
+  fitting Source.SSCOP (Some Status.ANS) = refl
+  fitting Source.SSCOP (Some Status.MI) = refl
+  fitting Source.SSCOP (Some Status.PE) = refl
+  fitting Source.SSCOP (Some Status.PNS) = refl
+  fitting Source.User None = refl
+  fitting Source.SSCOP None = refl
 
 hands_release_confirm : (k : ℕ) → Hands (plain RELEASE-confirm k) k RELEASE-confirm event.ReleaseConfirm
 unfolding coded_at not_carried out_of_range
@@ -313,20 +313,20 @@ module _ (l : Link) where
   unfolding step_of AAL-START-request
   start_disconnecting = refl
 
-  rejected : (s : Source) (f : Field) →
+  rejected : (s : Source) (f : Option Status) →
       step_of (with_state 2/2/2 l) (event.ReleaseIndication (coded f) (sourced s)) ≡ Legal (with_state 2/1/2 (with_timer T1 true l)) (reported s f ∷ bare SET-T1 ∷ [])
   unfolding step_of AA-RELEASE-indication-from-User AA-RELEASE-indication-from-SSCOP
   rejected Source.User f = refl
   rejected Source.SSCOP f = refl
 
-  unproved : (s : Source) (f : Field) →
+  unproved : (s : Source) (f : Option Status) →
       step_of (with_state 2/10/3 l) (event.ReleaseIndication (coded f) (sourced s))
       ≡ Legal (with_state 2/1/2 (with_timer T1 true (with_timer T3 false l))) (reported s f ∷ bare STOP-PROVING ∷ bare RESET-T3 ∷ bare SET-T1 ∷ [])
   unfolding step_of AA-RELEASE-indication-from-User AA-RELEASE-indication-from-SSCOP
   unproved Source.User f = refl
   unproved Source.SSCOP f = refl
 
-  unready : (s : Source) (f : Field) →
+  unready : (s : Source) (f : Option Status) →
       step_of (with_state 2/10/4 l) (event.ReleaseIndication (coded f) (sourced s)) ≡ Legal (with_state 2/1/2 (with_timer T1 true l)) (reported s f ∷ bare SET-T1 ∷ [])
   unfolding step_of AA-RELEASE-indication-from-User AA-RELEASE-indication-from-SSCOP
   unready Source.User f = refl
@@ -360,7 +360,7 @@ module _ (l : Link) where
   unfolding step_of T2-expires
   late_ready = refl
 
-  out_by_user : (f : Field) →
+  out_by_user : (f : Option Status) →
       step_of (with_state 3/10/5 l) (event.ReleaseIndication (coded f) 0) ≡ Legal (with_state 1/1/1 (with_ups Ups.Normal l)) (bare OUT-OF-SERVICE ∷ report_uu f ∷ [])
   unfolding step_of AA-RELEASE-indication-from-User
   out_by_user f = refl

@@ -1,8 +1,7 @@
 -- Q.2140's Annex A, A.6: what each item but SNSP3 and SNSP4 asks of the SSCF, as theorems over the calls, on octets and after every sequence of calls. docs/PICS.md has the items
 -- with their answers.
-use Rattle.std.specs.Prelude.{ℕ, ◌+◌, ◌≤◌, ◌≡◌, Bool, true, false, ◌&&◌, ◌||◌, List, [], ◌∷◌, ◌++◌, map, eqb, length, replicate}
+use Rattle.std.specs.Prelude.{ℕ, ◌+◌, ◌≤◌, ◌≡◌, Bool, true, false, ◌&&◌, ◌||◌, List, [], ◌∷◌, ◌++◌, map, eqb, length, replicate, Option, Some, None}
 use Rattle.unit.specs.declared.Status.{Status}
-use Rattle.unit.specs.declared.Field.{Field}
 use Rattle.unit.specs.declared.Ups.{Ups}
 use Rattle.unit.specs.Unit.{code, unit_of}
 use Rattle.unit.specs.Proving.{table7, table8}
@@ -72,9 +71,9 @@ abbrev pub from_peer : ℕ → Ups → ℕ → List ℕ
 from_peer c peer k = written EV k c (asking peer) none []
 
 -- the field of a release: a status, or none
-abbrev pub coded : Field → ℕ
-coded (Field.Named s) = code s
-coded Field.Unnamed = 0
+abbrev pub coded : Option Status → ℕ
+coded (Some s) = code s
+coded None = 0
 
 -- the source of a release
 pub data Source : Type 0 where
@@ -84,7 +83,7 @@ abbrev pub sourced : Source → ℕ
 sourced Source.User = 0
 sourced Source.SSCOP = 1
 
-abbrev pub released : Source → Field → ℕ → List ℕ
+abbrev pub released : Source → Option Status → ℕ → List ℕ
 released s f k = written EV k RELEASE-indication (coded f) (num 0 0 (sourced s)) []
 
 abbrev pub message : List ℕ → ℕ → List ℕ
@@ -95,11 +94,11 @@ arriving m n k = written EV k DATA-indication 0 n m
 
 -- SIGNALS
 -- with the field that came
-abbrev pub report_uu : Field → Signal
+abbrev pub report_uu : Option Status → Signal
 report_uu f = signal REPORT (coded f) (num (first RR) (second –) (third SSCOP-UU)) Carries.Nothing
 
 -- of a release during alignment, by its source
-abbrev pub reported : Source → Field → Signal
+abbrev pub reported : Source → Option Status → Signal
 reported Source.User f = report_uu f
 reported Source.SSCOP f = report SR – –
 
@@ -155,13 +154,13 @@ abbrev pub confirms : Ups → ℕ → Turn
 confirms peer k = from_peer ESTABLISH-confirm peer k ⇒ bare START-PROVING ∷ bare SET-T3 ∷ []
 
 -- the connection that was asked for is rejected by the peer, or given up by SSCOP
-abbrev pub fails : Source → Field → ℕ → Turn
+abbrev pub fails : Source → Option Status → ℕ → Turn
 fails s f k = released s f k ⇒ reported s f ∷ bare SET-T1 ∷ []
 
 -- SNPC1. The peer connects while the link waits for its next attempt; and so after a START whose own attempt failed.
 pub record SNPC1 : Type 0 where
   pub waiting : (peer : Ups) → Serves 2/1/2 peer (λ w k. answers peer w k ∷ [])
-  pub after_start : (peer : Ups) (s : Source) (f : Field) → Serves 1/1/1 peer (λ w k. starts w k ∷ fails s f k ∷ answers peer w k ∷ [])
+  pub after_start : (peer : Ups) (s : Source) (f : Option Status) → Serves 1/1/1 peer (λ w k. starts w k ∷ fails s f k ∷ answers peer w k ∷ [])
 
 -- SNPC2. The connection that the peer asks for is accepted.
 abbrev pub SNPC2 : Type 0
@@ -169,8 +168,8 @@ SNPC2 = (peer : Ups) → BringsFree 2/1/2 (λ w k. answers peer w k ∷ []) 2/10
 
 -- SNPC3. In service, the far user releases the connection, or SSCOP does.
 pub record SNPC3 : Type 0 where
-  pub by_far_user : (f : Field) → Brings 3/10/5 (λ w k. (released Source.User f k ⇒ bare OUT-OF-SERVICE ∷ report_uu f ∷ []) ∷ []) 1/1/1
-  pub by_sscop : (f : Field) → Brings 3/10/5 (λ w k. (released Source.SSCOP f k ⇒ bare OUT-OF-SERVICE ∷ report SR OOS – ∷ []) ∷ []) 1/1/1
+  pub by_far_user : (f : Option Status) → Brings 3/10/5 (λ w k. (released Source.User f k ⇒ bare OUT-OF-SERVICE ∷ report_uu f ∷ []) ∷ []) 1/1/1
+  pub by_sscop : (f : Option Status) → Brings 3/10/5 (λ w k. (released Source.SSCOP f k ⇒ bare OUT-OF-SERVICE ∷ report SR OOS – ∷ []) ∷ []) 1/1/1
 
 -- SNPC4. START asks SSCOP for a connection, in both states that take it.
 pub record SNPC4 : Type 0 where
@@ -254,9 +253,9 @@ retries l k = plain T1-expired k ⇒ request l ∷ []
 -- attempt, whenever it comes.
 pub record SNSP1 : Type 0 where
   pub runs : AfterEachCall (λ w k. (link_in w k).t1 ≡ T1-runs (link_in w k).state)
-  pub asked : (s : Source) (f : Field) → Brings 2/2/2 (λ w k. fails s f k ∷ retries (link_in w k) k ∷ []) 2/2/2
-  pub proving : (s : Source) (f : Field) → Brings 2/10/3 (λ w k. (released s f k ⇒ reported s f ∷ bare STOP-PROVING ∷ bare RESET-T3 ∷ bare SET-T1 ∷ []) ∷ retries (link_in w k) k ∷ []) 2/2/2
-  pub ready : (s : Source) (f : Field) → Brings 2/10/4 (λ w k. fails s f k ∷ retries (link_in w k) k ∷ []) 2/2/2
+  pub asked : (s : Source) (f : Option Status) → Brings 2/2/2 (λ w k. fails s f k ∷ retries (link_in w k) k ∷ []) 2/2/2
+  pub proving : (s : Source) (f : Option Status) → Brings 2/10/3 (λ w k. (released s f k ⇒ reported s f ∷ bare STOP-PROVING ∷ bare RESET-T3 ∷ bare SET-T1 ∷ []) ∷ retries (link_in w k) k ∷ []) 2/2/2
+  pub ready : (s : Source) (f : Option Status) → Brings 2/10/4 (λ w k. fails s f k ∷ retries (link_in w k) k ∷ []) 2/2/2
   pub own : Brings 2/4/2 (λ w k. (plain RELEASE-confirm k ⇒ bare SET-T1 ∷ []) ∷ retries (link_in w k) k ∷ []) 2/2/2
   pub waiting : Brings 2/1/2 (λ w k. retries (link_in w k) k ∷ []) 2/2/2
 

@@ -5,12 +5,12 @@ use mathlib.Core.Path.{◌≡◌}
 use Rattle.unit.specs.OneAnswer.{OneReading, OneAnswer}
 use Rattle.unit.proofs.OneAnswer.{equal}
 use Rattle.lines.specs.Text.{Added}
-use Rattle.lines.proofs.text.add.Kinds as add-kinds
-use Rattle.lines.proofs.text.add.Reads as add
-use Rattle.lines.proofs.text.add_number.Kinds as add-number-kinds
-use Rattle.lines.proofs.text.add_number.Reads as add-number
-use Rattle.lines.proofs.text.add_hexadecimal.Kinds as add-hexadecimal-kinds
-use Rattle.lines.proofs.text.add_hexadecimal.Reads as add-hexadecimal
+use Rattle.lines.proofs.text.Line.add.Kinds as add-kinds
+use Rattle.lines.proofs.text.Line.add.Reads as add
+use Rattle.lines.proofs.text.Line.number.Kinds as number-kinds
+use Rattle.lines.proofs.text.Line.number.Reads as number
+use Rattle.lines.proofs.text.Line.hexadecimal.Kinds as hexadecimal-kinds
+use Rattle.lines.proofs.text.Line.hexadecimal.Reads as hexadecimal
 use Rattle.lines.proofs.first_record.Kinds as first-record-kinds
 use Rattle.lines.proofs.first_record.Reads as first-record
 use Rattle.lines.proofs.event_line.Kinds as event-line-kinds
@@ -26,14 +26,15 @@ one p q =
     let w = equal p.written q.written in
     λ i. (a i, w i)
 
-pub add_one : OneReading add-kinds.ps add-kinds.r (ℕ × List ℕ) (λ κs arguments x e. (x, e.0.now)) add.Post
-add_one κs arguments x y e f = one
+-- of a line, its place and its text
+pub add_one : OneReading add-kinds.ps add-kinds.r (ℕ × List ℕ) (λ κs arguments x e. (e.0.now.at, e.0.now.text.now)) add.Post
+add_one κs arguments x y e f p q = one p.added q.added
 
-pub add_number_one : OneReading add-number-kinds.ps add-number-kinds.r (ℕ × List ℕ) (λ κs arguments x e. (x, e.0.now)) add-number.Post
-add_number_one κs arguments x y e f p q = one p.0 q.0
+pub number_one : OneReading number-kinds.ps number-kinds.r (ℕ × List ℕ) (λ κs arguments x e. (e.0.now.at, e.0.now.text.now)) number.Post
+number_one κs arguments x y e f p q = one p.0.added q.0.added
 
-pub add_hexadecimal_one : OneReading add-hexadecimal-kinds.ps add-hexadecimal-kinds.r (ℕ × List ℕ) (λ κs arguments x e. (x, e.0.now)) add-hexadecimal.Post
-add_hexadecimal_one κs arguments x y e f = one
+pub hexadecimal_one : OneReading hexadecimal-kinds.ps hexadecimal-kinds.r (ℕ × List ℕ) (λ κs arguments x e. (e.0.now.at, e.0.now.text.now)) hexadecimal.Post
+hexadecimal_one κs arguments x y e f p q = one p.added q.added
 
 pub first_record_one : OneAnswer first-record-kinds.ps first-record-kinds.r first-record.Post
 first_record_one κs arguments x y e f = equal

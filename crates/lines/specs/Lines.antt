@@ -1,5 +1,5 @@
 -- The lines of document 01's trace.
-use Rattle.std.specs.Prelude.{ℕ, ◌+◌, cond, List, [], ◌∷◌, ◌++◌, eqb, ltb, length}
+use Rattle.std.specs.Prelude.{ℕ, ◌+◌, cond, Option, None, Some, List, [], ◌∷◌, ◌++◌, eqb, ltb, length}
 use Rattle.unit.specs.Answered.{Answered, refused, accepted}
 use Rattle.table6.specs.declared.State.{State}
 use Rattle.table6.specs.RefusalCodes.{REFUSED-FRAME}
@@ -18,9 +18,9 @@ event_line ordinal e refusal signals =
     line (ascii ("E" ∷ []))
     (decimal ordinal ∷ decimal (shown refusal (link_at e)) ∷ decimal (shown refusal (code_at e)) ∷ decimal refusal ∷ decimal signals ∷ [])
 
--- Of signals one behind the other, the length of the first, 0 if there is none.
-abbrev pub first_record : List ℕ → ℕ
-first_record o = cond (ltb (length o) head_octets) 0 (cond (ltb (length o) (head_octets + length_at o)) 0 (head_octets + length_at o))
+-- Of signals one behind the other, the length of the first, if there is one.
+abbrev pub first_record : List ℕ → Option ℕ
+first_record o = cond (ltb (length o) head_octets) None (cond (ltb (length o) (head_octets + length_at o)) None (Some (head_octets + length_at o)))
 
 -- "Per signal S, code, parameter, number as three decimals, message in hex or '-'".
 abbrev pub dotted : ℕ → ℕ → ℕ → List ℕ

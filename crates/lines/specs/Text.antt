@@ -1,7 +1,8 @@
 -- Text in ASCII: words, numbers in decimal, octets in hexadecimal, and lines of words.
-use Rattle.std.specs.Prelude.{ℕ, zero, suc, ◌+◌, ◌/◌, ◌%◌, ◌≡◌, cond, List, [], ◌∷◌, ◌++◌, eqb, ltb, length}
+use Rattle.std.specs.Prelude.{ℕ, zero, suc, ◌+◌, ◌/◌, ◌%◌, ◌≤◌, ◌≡◌, cond, List, [], ◌∷◌, ◌++◌, eqb, ltb, length}
 use Prim.Native.Char.{Char, code}
 use Rattle.octet.specs.Octets.{put_at}
+use Rattle.lines.specs.declared.text.Line.{Line}
 
 abbrev pub ascii : List Char → List ℕ
 ascii [] = []
@@ -33,3 +34,14 @@ line word (next ∷ others) = word ++ code " " ∷ line next others
 pub record Added (octets text : List ℕ) (a r : ℕ) (text' : List ℕ) : Type 0 where
   pub answer : r ≡ a + length octets
   pub written : text' ≡ put_at text a octets
+
+-- A line is a text and the place of its next octet. It has room for n octets where its text goes on for as many.
+abbrev pub HasRoom : Line → ℕ → Type 0
+HasRoom l n = l.at + n ≤ length l.text.now
+
+-- There was room, the octets stand from the line's place on, and the text is the same one, as long as it was.
+pub record Adds (octets : List ℕ) (l l' : Line) : Type 0 where
+  pub room : HasRoom l (length octets)
+  pub added : Added octets l.text.now l.at l'.at l'.text.now
+  pub same_text : l'.text.ghost_name ≡ l.text.ghost_name
+  pub same_length : length l'.text.now ≡ length l.text.now

@@ -3,18 +3,18 @@
 
 mod text;
 
-ghost use Rattle.std.specs.Prelude.{◌≡◌, ◌∷◌, [], ◌++◌, ◌+◌, ◌*◌, ◌≤◌, length};
+ghost use Rattle.std.specs.Prelude.{◌≡◌, ◌+◌, ◌*◌, ◌≤◌, length};
 ghost use Rattle.record.specs.LinkRecord.{found};
 ghost use Rattle.event.specs.Frame.{head_octets};
-ghost use Rattle.lines.specs.Text.{decimal, Added};
-ghost use Rattle.lines.specs.Lines.{first_record, shown, event_line, dotted, message_text, signal_line, state_name, slot_text, link_line};
+ghost use Rattle.lines.specs.Text.{Added, HasRoom, Adds};
+ghost use Rattle.lines.specs.Lines.{first_record, shown, event_line, message_text, signal_line, state_name, slot_text, link_line};
 
 use event::{HEAD, message};
-use record::Slot;
+use link::Link;
 use table6::State;
-use text::{add, add_hexadecimal, add_number};
+use text::Line;
 
-// The refusal of an event whose frame is broken.
+// The refusal of an event whose frame is broken, in document 01's number, which is what the step answers to C.
 pub const BAD_FRAME: u32 = 2;
 
 const SPACE: u8 = b' ';
@@ -35,63 +35,40 @@ pub fn event_line(text: &mut [u8], ordinal: u64, e: &[u8], refusal: u32, signals
     requires { (head_octets ≤ length e.now) × (128 ≤ length text.old) }
     ensures { Added (event_line ordinal e.now refusal signals) text.old 0 result text.new × (result ≤ 128) }
 {
-    let link = shown_as(refusal, octet::wide(e[2], e[3]));
-    let code = shown_as(refusal, octet::wide(0, e[4]));
-    let a = add(text, 0, b"E ");
-    let b = add_number(text, a, ordinal, SPACE);
-    let c = add_number(text, b, link as u64, SPACE);
-    let d = add_number(text, c, code as u64, SPACE);
-    let f = add_number(text, d, refusal as u64, SPACE);
-    add_number(text, f, signals as u64, NEWLINE)
+    let link = shown_as(refusal, event::link(e));
+    let code = shown_as(refusal, e[4] as u16);
+    let mut line = Line::new(text);
+    line.add(b"E ");
+    line.number(ordinal, SPACE);
+    line.number(link as u64, SPACE);
+    line.number(code as u64, SPACE);
+    line.number(refusal as u64, SPACE);
+    line.number(signals as u64, NEWLINE);
+    line.at
 }
 
-// How long the record is that begins some octets, 0 if they hold none.
-pub fn first_record(octets: &[u8]) -> usize
+// How long the record is that begins some octets, if they hold one.
+pub fn first_record(octets: &[u8]) -> Option<usize>
     ensures { result ≡ first_record octets.now }
 {
     if octets.len() < HEAD {
-        return 0;
+        return None;
     }
     let n = HEAD + octet::wide(octets[10], octets[11]) as usize;
-    if octets.len() < n { 0 } else { n }
+    if octets.len() < n { None } else { Some(n) }
 }
 
 // Adds a message in hexadecimal, or "-" where there is none.
-fn add_message(text: &mut [u8], a: usize, m: &[u8]) -> usize
-    requires { a + 2 * length m.now + 1 ≤ length text.old }
-    ensures { Added (message_text m.now) text.old a result text.new }
+#[tactic(auto, using(crate::proofs::Texts::some_message, crate::proofs::Texts::hexadecimal_length))]
+fn add_message(line: &mut Line, m: &[u8])
+    requires { HasRoom line.old (2 * length m.now + 1) }
+    ensures { Adds (message_text m.now) line.old line.new × (line.new.at ≤ line.old.at + 2 * length m.now + 1) }
 {
-    if m.len() == 0 {
-        return add(text, a, b"-");
+    if m.is_empty() {
+        line.add(b"-");
+    } else {
+        line.hexadecimal(m);
     }
-    add_hexadecimal(text, a, m)
-}
-
-// Adds an octet's number and an octet behind it.
-fn add_octet(text: &mut [u8], a: usize, n: u8, behind: u8) -> usize
-    requires { a + 21 ≤ length text.old }
-    ensures { Added (decimal n ++ behind ∷ []) text.old a result text.new × (result ≤ a + 21) }
-{
-    add_number(text, a, n as u64, behind)
-}
-
-fn add_dotted(text: &mut [u8], at: usize, a: u8, b: u8, c: u8) -> usize
-    requires { at + 63 ≤ length text.old }
-    ensures { Added (dotted a b c ++ 32 ∷ []) text.old at result text.new × (result ≤ at + 63) }
-{
-    let second = add_octet(text, at, a, DOT);
-    let third = add_octet(text, second, b, DOT);
-    add_octet(text, third, c, SPACE)
-}
-
-// Adds the beginning of a signal's line, up to the number.
-fn add_code(text: &mut [u8], code: u8, param: u8) -> usize
-    requires { 44 ≤ length text.old }
-    ensures { Added (83 ∷ 32 ∷ (decimal code ++ 32 ∷ (decimal param ++ 32 ∷ []))) text.old 0 result text.new × (result ≤ 44) }
-{
-    let a = add(text, 0, b"S ");
-    let b = add_octet(text, a, code, SPACE);
-    add_octet(text, b, param, SPACE)
 }
 
 // The line of a signal's record.
@@ -99,40 +76,45 @@ pub fn signal_line(text: &mut [u8], r: &[u8]) -> usize
     requires { (head_octets ≤ length r.now) × (128 + 2 * length r.now ≤ length text.old) }
     ensures { Added (signal_line r.now) text.old 0 result text.new × (result ≤ 128 + 2 * length r.now) }
 {
-    let a = add_code(text, r[4], r[5]);
-    let b = add_dotted(text, a, r[6], r[7], r[8]);
-    let c = add_message(text, b, message(r));
-    add(text, c, b"\n")
+    let mut line = Line::new(text);
+    line.add(b"S ");
+    line.number(r[4] as u64, SPACE);
+    line.number(r[5] as u64, SPACE);
+    line.number(r[6] as u64, DOT);
+    line.number(r[7] as u64, DOT);
+    line.number(r[8] as u64, SPACE);
+    add_message(&mut line, message(r));
+    line.add(b"\n");
+    line.at
 }
 
-fn add_state(text: &mut [u8], a: usize, s: State) -> usize
-    requires { a + 6 ≤ length text.old }
-    ensures { Added (state_name s) text.old a result text.new × (result ≤ a + 6) }
+// A state as it is printed.
+fn name(s: State) -> &'static [u8]
+    ensures { (result.now ≡ state_name s) × (length result.now ≤ 6) }
 {
     match s {
-        State::S111 => add(text, a, b"1/1/1"),
-        State::S141 => add(text, a, b"1/4/1"),
-        State::S212 => add(text, a, b"2/1/2"),
-        State::S222 => add(text, a, b"2/2/2"),
-        State::S242 => add(text, a, b"2/4/2"),
-        State::S2103 => add(text, a, b"2/10/3"),
-        State::S2104 => add(text, a, b"2/10/4"),
-        State::S3105 => add(text, a, b"3/10/5"),
+        State::S111 => b"1/1/1",
+        State::S141 => b"1/4/1",
+        State::S212 => b"2/1/2",
+        State::S222 => b"2/2/2",
+        State::S242 => b"2/4/2",
+        State::S2103 => b"2/10/3",
+        State::S2104 => b"2/10/4",
+        State::S3105 => b"3/10/5",
     }
 }
 
 // Adds a link's state and C1, or what stands for an ill-formed record.
-fn add_slot(text: &mut [u8], a: usize, slot: Slot) -> usize
-    requires { a + 32 ≤ length text.old }
-    ensures { Added (slot_text (found slot)) text.old a result text.new × (result ≤ a + 32) }
+fn add_slot(line: &mut Line, slot: Option<Link>)
+    requires { HasRoom line.old 32 }
+    ensures { Adds (slot_text (found slot)) line.old line.new × (line.new.at ≤ line.old.at + 32) }
 {
     match slot {
-        Slot::IllFormed => add(text, a, b"? 0\n"),
-        Slot::Holds(l) => {
-            let state = l.state;
-            let b = add_state(text, a, state);
-            let c = add(text, b, b" ");
-            add_number(text, c, l.c1 as u64, NEWLINE)
+        None => line.add(b"? 0\n"),
+        Some(l) => {
+            line.add(name(l.state));
+            line.add(b" ");
+            line.number(l.c1 as u64, NEWLINE);
         }
     }
 }
@@ -142,7 +124,9 @@ pub fn link_line(text: &mut [u8], k: u16, r: &[u8]) -> usize
     requires { 64 ≤ length text.old }
     ensures { Added (link_line k r.now) text.old 0 result text.new × (result ≤ 64) }
 {
-    let a = add(text, 0, b"L ");
-    let b = add_number(text, a, k as u64, SPACE);
-    add_slot(text, b, record::read_link(r))
+    let mut line = Line::new(text);
+    line.add(b"L ");
+    line.number(k as u64, SPACE);
+    add_slot(&mut line, record::read_link(r));
+    line.at
 }

@@ -3,6 +3,7 @@
 use mathlib.Core.Path.{◌≡◌, refl, sym, ap, subst, ◌∙◌}
 use mathlib.Core.Bool.{Bool, true, false, cond, not, ◌&&◌}
 use mathlib.Core.List.{◌++◌}
+use Rattle.std.specs.Prelude.{Some}
 use Prim.Native.Nat.{ℕ}
 use lib.Dec.{eqb}
 use Rattle.unit.specs.declared.Arrived.{Arrived}
@@ -10,7 +11,7 @@ use Rattle.unit.specs.declared.Mps.{Mps}
 use Rattle.unit.specs.declared.Ups.{Ups}
 use Rattle.table6.specs.declared.State.{State}
 use Rattle.table6.specs.declared.Facts.{Facts}
-use Rattle.table6.specs.declared.Met.{Met}
+use Rattle.table6.specs.declared.Does.{Does}
 use Rattle.table6.specs.Summary.{Op, keep, put, over, Count, same, decided, less, Summary, still, with_mps, with_ups, with_c1, with_bsnt, with_congested, summary, Summed, refused, summed}
 use Rattle.table6.specs.Order.{signals}
 use Rattle.table6.specs.Words.{2/4/2, is-2/10/3}
@@ -25,7 +26,7 @@ use Rattle.link.specs.declared.View.{View}
 use Rattle.link.specs.Effect.{with_state}
 use Rattle.link.specs.Effect as effect
 use Rattle.link.specs.Signal.{none}
-use Rattle.link.specs.Step.{Illegal, Legal, step_of}
+use Rattle.link.specs.Step.{Outcome, Illegal, Legal, step_of}
 use Rattle.link.specs.Stored.{bare_view, view_of, number_in, meeting_of, facts_of, summed_up, arrived_of, risen_of, applied_of, given_by, signals_of}
 use Rattle.link.proofs.Performed.{outcome_of, as_met}
 use Rattle.link.proofs.Carried.{leaving, carried}
@@ -93,9 +94,9 @@ still_counted b s (summed y says next) = by (not (is-2/10/3 s) && (is-2/10/3 nex
   by true = refl
   by false = refl
 
-pub down : (row : ℕ) (s : State) (f : Facts) (b up : Bool) (n ws : ℕ) → Undecided row → (arrival row).c1 ≡ same → met_as row s (Met.Does n ws up) ≡ goes_on b s (met row s f) → up ≡ false
-down row s f b up n ws u a e =
-    not_up up (ap (cond up decided) (sym a) ∙ ap count_of e ∙ still_counted b s (met row s f) ∙ of_eight (λ s. count_of (met row s f)) (λ s. same) (u f) s)
+pub down : (row : ℕ) (s : State) (f : Facts) (b : Bool) (d : Does) → Undecided row → (arrival row).c1 ≡ same → met_as row s (Some d) ≡ goes_on b s (met row s f) → d.up ≡ false
+down row s f b d u a e =
+    not_up d.up (ap (cond d.up decided) (sym a) ∙ ap count_of e ∙ still_counted b s (met row s f) ∙ of_eight (λ s. count_of (met row s f)) (λ s. same) (u f) s)
 
 undecided_1 : Undecided 1
 unfolding met every_row
@@ -158,111 +159,60 @@ t3_facts true l = refl
 t3_facts false l = refl
 
 same_facts : (e : Event) (l : Link) → SameFacts l (view_of e l.c1)
-same_facts event.Message l = refl
-same_facts event.Emergency l = refl
-same_facts event.EmergencyCeases l = refl
-same_facts event.Stop l = refl
-same_facts event.Start l = refl
-same_facts event.RetrieveBsnt l = refl
-same_facts (event.Retrieval n) l = refl
-same_facts event.FlushBuffers l = refl
-same_facts event.Continue l = refl
-same_facts (event.EstablishIndication p) l = refl
-same_facts (event.EstablishConfirm p) l = refl
-same_facts (event.ReleaseIndication f s) l = refl
-same_facts event.ReleaseConfirm l = refl
 same_facts (event.Data Arrived.INS n) l = data_facts l (view_of (event.Data Arrived.INS n) l.c1) plain_13
 same_facts (event.Data Arrived.NM n) l = data_facts l (view_of (event.Data Arrived.NM n) l.c1) plain_14
 same_facts (event.Data (Arrived.Other status) n) l = data_facts l (view_of (event.Data (Arrived.Other status) n) l.c1) plain_15
 same_facts (event.Data Arrived.Short n) l = data_facts l (view_of (event.Data Arrived.Short n) l.c1) plain_15
 same_facts (event.Data Arrived.Long n) l = data_facts l (view_of (event.Data Arrived.Long n) l.c1) plain_16
-same_facts event.Resync l = refl
-same_facts event.Recover l = refl
-same_facts event.UnitData l = refl
-same_facts (event.Retrieve k) l = refl
-same_facts event.RetrieveComplete l = refl
-same_facts event.ProvingUnsuccessful l = refl
-same_facts event.Release l = refl
-same_facts event.Outage l = refl
-same_facts event.Recovered l = refl
-same_facts event.ForceProving l = refl
-same_facts event.ForceEmergency l = refl
-same_facts event.ClearForceModes l = refl
-same_facts (event.Congestion p) l = refl
-same_facts event.CongestionCeased l = refl
-same_facts event.T1 l = refl
-same_facts event.T2 l = refl
 same_facts event.T3 l = t3_facts (eqb l.c1 0) l
+same_facts e l = refl
 
--- what was met of a link and a view: a number, its words, and whether a connection comes up
-abbrev pub Met-so : Link → View → ℕ → ℕ → Bool → Type 0
-Met-so l v n ws up = met_as v.0 l.state (Met.Does n ws up) ≡ goes_on l.congested l.state (met v.0 l.state (facts_of (arrived_of v l) v))
+-- what was met of a link and a view
+abbrev pub Met-so : Link → View → Does → Type 0
+Met-so l v d = met_as v.0 l.state (Some d) ≡ goes_on l.congested l.state (met v.0 l.state (facts_of (arrived_of v l) v))
 
 t3_joined : (b : Bool) (l : Link) (n : ℕ) (up : Bool) → Behind (arrival (cond b 34 33)) up n 0 none l
 t3_joined true l n up = nothing up n 0 none l
 t3_joined false l n up = c1_less up n 0 none l
 
-joined : (e : Event) (l : Link) (n ws : ℕ) (up : Bool) → Met-so l (view_of e l.c1) n ws up → let v = view_of e l.c1 in Behind (arrival v.0) up n v.1 v.2 l
-joined event.Message l n ws up h = nothing up n 0 none l
-joined event.Emergency l n ws up h = ups_wished Ups.Emergency n 0 none l (down 1 l.state _ l.congested up n ws undecided_1 refl h)
-joined event.EmergencyCeases l n ws up h = ups_wished Ups.Normal n 0 none l (down 2 l.state _ l.congested up n ws undecided_2 refl h)
-joined event.Stop l n ws up h = nothing up n 0 none l
-joined event.Start l n ws up h = nothing up n 0 none l
-joined event.RetrieveBsnt l n ws up h = nothing up n 0 none l
-joined (event.Retrieval n) l k ws up h = nothing up k 0 n l
-joined event.FlushBuffers l n ws up h = nothing up n 0 none l
-joined event.Continue l n ws up h = nothing up n 0 none l
-joined (event.EstablishIndication p) l n ws up h = nothing up n p none l
-joined (event.EstablishConfirm p) l n ws up h = nothing up n p none l
-joined (event.ReleaseIndication f s) l n ws up h = nothing up n f none l
-joined event.ReleaseConfirm l n ws up h = nothing up n 0 none l
-joined (event.Data Arrived.INS n) l k ws up h = bsnt_taken up k 0 n l
-joined (event.Data Arrived.NM n) l k ws up h = bsnt_taken up k 0 n l
-joined (event.Data (Arrived.Other status) n) l k ws up h = bsnt_taken up k 0 n l
-joined (event.Data Arrived.Short n) l k ws up h = bsnt_taken up k 0 n l
-joined (event.Data Arrived.Long n) l k ws up h = bsnt_taken up k 0 n l
-joined event.Resync l n ws up h = nothing up n 0 none l
-joined event.Recover l n ws up h = nothing up n 0 none l
-joined event.UnitData l n ws up h = nothing up n 0 none l
-joined (event.Retrieve k) l n ws up h = nothing up n 0 none l
-joined event.RetrieveComplete l n ws up h = nothing up n 0 none l
-joined event.ProvingUnsuccessful l n ws up h = nothing up n 0 none l
-joined event.Release l n ws up h = nothing up n 0 none l
-joined event.Outage l n ws up h = nothing up n 0 none l
-joined event.Recovered l n ws up h = nothing up n 0 none l
-joined event.ForceProving l n ws up h = mps_forced Mps.Normal n 0 none l (down 26 l.state _ l.congested up n ws undecided_26 refl h)
-joined event.ForceEmergency l n ws up h = mps_forced Mps.Emergency n 0 none l (down 27 l.state _ l.congested up n ws undecided_27 refl h)
-joined event.ClearForceModes l n ws up h = mps_forced Mps.Neutral n 0 none l (down 28 l.state _ l.congested up n ws undecided_28 refl h)
-joined (event.Congestion p) l n ws up h = flag_put true up n p none l
-joined event.CongestionCeased l n ws up h = flag_put false up n 0 none l
-joined event.T1 l n ws up h = nothing up n 0 none l
-joined event.T2 l n ws up h = nothing up n 0 none l
-joined event.T3 l n ws up h = t3_joined (eqb l.c1 0) l n up
+joined : (e : Event) (l : Link) (d : Does) → Met-so l (view_of e l.c1) d → let v = view_of e l.c1 in Behind (arrival v.0) d.up d.number v.1 v.2 l
+joined (event.Data Arrived.INS n) l d h = bsnt_taken d.up d.number 0 n l
+joined (event.Data a n) l d h = bsnt_taken d.up d.number 0 n l
+joined event.Emergency l d h = ups_wished Ups.Emergency d.number 0 none l (down 1 l.state _ l.congested d undecided_1 refl h)
+joined event.EmergencyCeases l d h = ups_wished Ups.Normal d.number 0 none l (down 2 l.state _ l.congested d undecided_2 refl h)
+joined event.ForceProving l d h = mps_forced Mps.Normal d.number 0 none l (down 26 l.state _ l.congested d undecided_26 refl h)
+joined event.ForceEmergency l d h = mps_forced Mps.Emergency d.number 0 none l (down 27 l.state _ l.congested d undecided_27 refl h)
+joined event.ClearForceModes l d h = mps_forced Mps.Neutral d.number 0 none l (down 28 l.state _ l.congested d undecided_28 refl h)
+joined (event.Congestion p) l d h = flag_put true d.up d.number p none l
+joined event.CongestionCeased l d h = flag_put false d.up d.number 0 none l
+joined event.T3 l d h = t3_joined (eqb l.c1 0) l d.number d.up
+joined e l d h = let v = view_of e l.c1 in nothing d.up d.number v.1 v.2 l
 
 -- the record that a step leaves
-abbrev pub left_of : Link → View → ℕ → Bool → Link
-left_of l v n up = let a = arrived_of v l in applied_of n (cond up (risen_of v.1 a) a)
+abbrev pub left_of : Link → View → Does → Link
+left_of l v d = let a = arrived_of v l in applied_of d.number (cond d.up (risen_of v.1 a) a)
+
+-- and what it answers, with its signals by the link that is left
+abbrev pub answer_of : Link → View → Does → Outcome
+answer_of l v d = Legal (left_of l v d) (signals_of (word_count d.number) d.words (given_by v.1 (number_in v) (left_of l v d)))
 
 same_state : (up : Bool) (p : ℕ) (a : Link) → (cond up (risen_of p a) a).state ≡ a.state
 same_state true p a = refl
 same_state false p a = refl
 
-as_one : (l : Link) (v : View) (n ws : ℕ) (up : Bool) → Behind (arrival v.0) up n v.1 v.2 l →
-    Legal (left_of l v n up) (signals_of (word_count n) ws (given_by v.1 (number_in v) (left_of l v n up))) ≡ leaving l (meeting_of v) (number_in v) (met_as v.0 l.state (Met.Does n ws up))
+as_one : (l : Link) (v : View) (d : Does) → Behind (arrival v.0) d.up d.number v.1 v.2 l → answer_of l v d ≡ leaving l (meeting_of v) (number_in v) (met_as v.0 l.state (Some d))
 unfolding signals_of
-as_one l v n ws up j =
-    let m : State → Link → Link = λ x k. with_state (over (state_op n) x) k in
+as_one l v d j =
+    let m : State → Link → Link = λ x k. with_state (over (state_op d.number) x) k in
     let a = arrived_of v l in
-    let k : left_of l v n up ≡ m l.state (summed_up (changed (arrival v.0) up n) v.1 v.2 l) = λ i. m (same_state up v.1 a i) (sym j i) in
-    ap (λ (z : Link). Legal z (signals_of (word_count n) ws (given_by v.1 (number_in v) z))) k
+    let k : left_of l v d ≡ m l.state (summed_up (changed (arrival v.0) d.up d.number) v.1 v.2 l) = λ i. m (same_state d.up v.1 a i) (sym j i) in
+    ap (λ (z : Link). Legal z (signals_of (word_count d.number) d.words (given_by v.1 (number_in v) z))) k
 
 -- what was met of an event, with its signals by the link that is left
-pub acted : (l : Link) (e : Event) (n ws : ℕ) (up : Bool) →
+pub acted : (l : Link) (e : Event) (d : Does) → let v = view_of e l.c1 in Met-so l v d → answer_of l v d ≡ step_of l e
+acted l e d h =
     let v = view_of e l.c1 in
-    Met-so l v n ws up → Legal (left_of l v n up) (signals_of (word_count n) ws (given_by v.1 (number_in v) (left_of l v n up))) ≡ step_of l e
-acted l e n ws up h =
-    let v = view_of e l.c1 in
-    as_one l v n ws up (joined e l n ws up h) ∙ ap (leaving l (meeting_of v) (number_in v)) (h ∙ ap (goes_on l.congested l.state) (same_facts e l)) ∙ carried l v ∙ as_met l e
+    as_one l v d (joined e l d h) ∙ ap (leaving l (meeting_of v) (number_in v)) (h ∙ ap (goes_on l.congested l.state) (same_facts e l)) ∙ carried l v ∙ as_met l e
 
 pub turned_down : (l : Link) (e : Event) →
     let v = view_of e l.c1 in

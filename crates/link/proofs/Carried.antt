@@ -6,6 +6,7 @@ use mathlib.Core.List.{List, [], ◌∷◌, ◌++◌, map}
 use Prim.Native.Nat.{ℕ}
 use lib.Dec.{eqb, ltb}
 use borrow.Author.Tests.{eqb-true, ltb-true, ltb-false}
+use Rattle.std.proofs.lemmas.List.{map-append}
 use Rattle.unit.specs.declared.Mps.{Mps}
 use Rattle.unit.specs.declared.Ups.{Ups}
 use Rattle.unit.specs.Proving.{table8}
@@ -32,7 +33,7 @@ use Rattle.link.specs.Effect.{with_state}
 use Rattle.link.specs.Signal.{num, signal_of}
 use Rattle.link.specs.Step.{Meeting, Outcome, Illegal, Legal}
 use Rattle.link.specs.Stored.{number_in, meeting_of, facts_of, held, summed_up}
-use Rattle.link.proofs.Performed.{outcome_of, map_append, choice_of}
+use Rattle.link.proofs.Performed.{outcome_of, choice_of}
 
 -- an outcome from a summed-up cell whose signals carry this number, and what the link that is left has
 abbrev pub leaving : Link → Meeting → Num → Summed → Outcome
@@ -86,26 +87,10 @@ module _ (p : ℕ) (n : Num) (l : Link) (s : Summary) where
   offered h = rw (as_it_was s.mps l.mps (left (kept s.mps) (kept s.ups) h), as_it_was s.ups l.ups (right (kept s.mps) (kept s.ups) h))
 
   one_told : (a : Told) → unaltered s a ≡ true → after a ≡ before a
-  one_told Told.AAL-RECEIVED-MESSAGE-indication h = refl
-  one_told Told.AAL-LINK-CONGESTED-indication h = refl
-  one_told Told.AAL-LINK-CONGESTION-CEASED-indication h = refl
-  one_told Told.AAL-IN-SERVICE-indication h = refl
-  one_told Told.AAL-OUT-OF-SERVICE-indication h = refl
-  one_told Told.AAL-RETRIEVED-MESSAGES-indication h = refl
-  one_told Told.AAL-RETRIEVAL-COMPLETE-indication h = refl
   one_told Told.AAL-BSNT-confirm h = ap (λ (b : Bsnt). signal_of p n l.mps l.ups b.num Told.AAL-BSNT-confirm) (as_held s.bsnt n l.bsnt h)
-  one_told Told.AAL-BSNT-NOT-RETRIEVABLE-confirm h = refl
   one_told Told.AA-ESTABLISH-request h = rw (offered h)
   one_told Told.AA-ESTABLISH-response h = rw (offered h)
-  one_told (Told.AA-RELEASE-request uu) h = refl
-  one_told (Told.AA-DATA-request mu) h = refl
-  one_told Told.AA-RECOVER-response h = refl
-  one_told Told.AA-RETRIEVE-request h = refl
-  one_told Told.MAAL-PROVING-indication h = refl
-  one_told Told.MAAL-STOP-PROVING-indication h = refl
-  one_told (Told.MAAL-REPORT-indication x y z) h = refl
-  one_told (Told.Set t) h = refl
-  one_told (Told.Reset t) h = refl
+  one_told a h = refl
 
   all_told : (all : List Told) → all_unaltered s all ≡ true → map after all ≡ map before all
   all_told [] h = refl
@@ -177,9 +162,9 @@ goes_on_lem b l m n (summed s says next) h = by (not (is-2/10/3 l.state) && (is-
   by false = h
   by true =
       ap (Legal (with_state 2/4/2 (summed_up (summary gives_up s) m.param m.number l)))
-      (map_append (signal_of m.param n k.mps k.ups k.bsnt.num) says (signals gives_up)
+      (map-append (signal_of m.param n k.mps k.ups k.bsnt.num) says (signals gives_up)
       ∙ ap (λ (first : List Signal). first ++ map (signal_of m.param n k.mps k.ups k.bsnt.num) (signals gives_up)) (ap signals_in h)
-      ∙ sym (map_append (signal_of m.param m.number l.mps l.ups l.bsnt.num) says (signals gives_up)))
+      ∙ sym (map-append (signal_of m.param m.number l.mps l.ups l.bsnt.num) says (signals gives_up)))
 
 pub carried : (l : Link) (v : View) →
     let x = goes_on l.congested l.state (met v.0 l.state (facts_of l v)) in leaving l (meeting_of v) (number_in v) x ≡ outcome_of l (meeting_of v) x

@@ -7,6 +7,7 @@ use native.Mathlib.Omega.{arith}
 use lib.Dec.{leb}
 use lib.ListN.{length}
 use borrow.Author.Tests.{leb-true}
+use Rattle.std.proofs.lemmas.List.{length-map}
 use Rattle.unit.specs.declared.Mps.{Mps}
 use Rattle.unit.specs.declared.Ups.{Ups}
 use Rattle.unit.specs.declared.Status.{Status}
@@ -35,7 +36,6 @@ use Rattle.link.specs.Step.{Meeting}
 use Rattle.link.specs.Stored.{view_of, meeting_of, facts_of, counted, held}
 use Rattle.link.specs.Kept.{messages_in, messages, brings, brought, Keeps, Kept}
 use Rattle.link.proofs.Performed.{outcome_of, choice_of, by_choice}
-use Rattle.link.proofs.Spoken.{length_map}
 
 bounded : (c : Count) (field : ℕ) (l : Link) → l.c1 ≤ l.n1 → counted c field l ≤ l.n1
 bounded same field l h = h
@@ -55,26 +55,8 @@ of_unit false true = refl
 of_unit false false = refl
 
 own_one : (p : ℕ) (n : Num) (mps : Mps) (ups : Ups) (b : Num) (a : Told) → messages_in (signal_of p n mps ups b a).carries ≡ cond (own_message a) 1 0
-own_one p n mps ups b Told.AAL-RECEIVED-MESSAGE-indication = refl
-own_one p n mps ups b Told.AAL-LINK-CONGESTED-indication = refl
-own_one p n mps ups b Told.AAL-LINK-CONGESTION-CEASED-indication = refl
-own_one p n mps ups b Told.AAL-IN-SERVICE-indication = refl
-own_one p n mps ups b Told.AAL-OUT-OF-SERVICE-indication = refl
-own_one p n mps ups b Told.AAL-RETRIEVED-MESSAGES-indication = refl
-own_one p n mps ups b Told.AAL-RETRIEVAL-COMPLETE-indication = refl
-own_one p n mps ups b Told.AAL-BSNT-confirm = refl
-own_one p n mps ups b Told.AAL-BSNT-NOT-RETRIEVABLE-confirm = refl
-own_one p n mps ups b Told.AA-ESTABLISH-request = refl
-own_one p n mps ups b Told.AA-ESTABLISH-response = refl
-own_one p n mps ups b (Told.AA-RELEASE-request uu) = refl
 own_one p n mps ups b (Told.AA-DATA-request mu) = of_unit (words.is mu NM) (words.is mu INS)
-own_one p n mps ups b Told.AA-RECOVER-response = refl
-own_one p n mps ups b Told.AA-RETRIEVE-request = refl
-own_one p n mps ups b Told.MAAL-PROVING-indication = refl
-own_one p n mps ups b Told.MAAL-STOP-PROVING-indication = refl
-own_one p n mps ups b (Told.MAAL-REPORT-indication x y z) = refl
-own_one p n mps ups b (Told.Set t) = refl
-own_one p n mps ups b (Told.Reset t) = refl
+own_one p n mps ups b a = refl
 
 own_all : (p : ℕ) (n : Num) (mps : Mps) (ups : Ups) (b : Num) (all : List Told) → messages (map (signal_of p n mps ups b) all) ≡ own_messages all
 own_all p n mps ups b [] = refl
@@ -86,26 +68,8 @@ abbrev plainly : Told → Signal
 plainly = signal_of 0 none Mps.Neutral Ups.Normal none
 
 brings_one : (p : ℕ) (n : Num) (mps : Mps) (ups : Ups) (b : Num) (a : Told) → brings (signal_of p n mps ups b a) ≡ brings (plainly a)
-brings_one p n mps ups b Told.AAL-RECEIVED-MESSAGE-indication = refl
-brings_one p n mps ups b Told.AAL-LINK-CONGESTED-indication = refl
-brings_one p n mps ups b Told.AAL-LINK-CONGESTION-CEASED-indication = refl
-brings_one p n mps ups b Told.AAL-IN-SERVICE-indication = refl
-brings_one p n mps ups b Told.AAL-OUT-OF-SERVICE-indication = refl
-brings_one p n mps ups b Told.AAL-RETRIEVED-MESSAGES-indication = refl
-brings_one p n mps ups b Told.AAL-RETRIEVAL-COMPLETE-indication = refl
-brings_one p n mps ups b Told.AAL-BSNT-confirm = refl
-brings_one p n mps ups b Told.AAL-BSNT-NOT-RETRIEVABLE-confirm = refl
-brings_one p n mps ups b Told.AA-ESTABLISH-request = refl
-brings_one p n mps ups b Told.AA-ESTABLISH-response = refl
-brings_one p n mps ups b (Told.AA-RELEASE-request uu) = refl
 brings_one p n mps ups b (Told.AA-DATA-request mu) = refl
-brings_one p n mps ups b Told.AA-RECOVER-response = refl
-brings_one p n mps ups b Told.AA-RETRIEVE-request = refl
-brings_one p n mps ups b Told.MAAL-PROVING-indication = refl
-brings_one p n mps ups b Told.MAAL-STOP-PROVING-indication = refl
-brings_one p n mps ups b (Told.MAAL-REPORT-indication x y z) = refl
-brings_one p n mps ups b (Told.Set t) = refl
-brings_one p n mps ups b (Told.Reset t) = refl
+brings_one p n mps ups b a = refl
 
 brings_all : (p : ℕ) (n : Num) (mps : Mps) (ups : Ups) (b : Num) (all : List Told) → brought (map (signal_of p n mps ups b) all) ≡ brought (map plainly all)
 brings_all p n mps ups b [] = refl
@@ -154,7 +118,7 @@ module _ (l : Link) (m : Meeting) where
         c1 = bounded s.c1 m.param l;
         bsnt = kept_zero s.bsnt m.number l.bsnt;
         last = still_status s.last l.last g;
-        eight = rw (length_map say says) (leb-true (length says) 8 (left (leb (length says) 8) _ f));
+        eight = rw (length-map says say) (leb-true (length says) 8 (left (leb (length says) 8) _ f));
         one_message = rw (own_all m.param m.number l.mps l.ups l.bsnt.num says) (leb-true (own_messages says) 1 (left (leb (own_messages says) 1) _ rest));
         one_brought = rw (brings_all m.param m.number l.mps l.ups l.bsnt.num says) (leb-true (brought (map plainly says)) 1 (right (leb (own_messages says) 1) _ rest));
       }

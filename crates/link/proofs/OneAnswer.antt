@@ -2,6 +2,7 @@
 -- and the reply in what it stands for. Assumes nothing.
 use mathlib.Core.Path.{◌≡◌}
 use mathlib.Core.List.{List}
+use Rattle.std.specs.Prelude.{Option}
 use base.Logic.{SProp, sep, fst∗, snd∗}
 use contract.Monad.{fact_i, fact_use}
 use Rattle.unit.specs.Answered.{Answered}
@@ -9,7 +10,7 @@ use Rattle.unit.specs.OneAnswer.{OneReading, OneAnswer, OneHeld}
 use Rattle.unit.proofs.OneAnswer.{equal}
 use Rattle.link.specs.declared.Link.{Link}
 use Rattle.link.specs.declared.Signal.{Signal}
-use Rattle.link.specs.declared.Reply.{Reply}
+use Rattle.link.specs.declared.Said.{Said}
 use Rattle.link.specs.declared.Event.{Event}
 use Rattle.link.specs.Step.{Outcome}
 use Rattle.link.specs.Stored.{view_of}
@@ -31,13 +32,13 @@ abbrev Both : Type 0
 Both = Link × Answered (List Signal)
 
 -- the record that an event leaves of a link, and what the reply stands for
-abbrev both : Link → Event → Link → Reply → Both
+abbrev both : Link → Event → Link → Option Said → Both
 both l e k r = (k, replied (view_of e l.c1) k r)
 
-one_turn : {l : Link} {e : Event} {o : Outcome} {k m : Link} {r s : Reply} → Turned l e o k r → Turned l e o m s → both l e k r ≡ both l e m s
+one_turn : {l : Link} {e : Event} {o : Outcome} {k m : Link} {r s : Option Said} → Turned l e o k r → Turned l e o m s → both l e k r ≡ both l e m s
 one_turn p q = λ i. (equal p.left q.left i, equal p.said q.said i)
 
-pub step_one : OneReading step-kinds.ps step-kinds.r Both (λ κs arguments x e. both arguments.0 arguments.1.0 x.link x.reply) step.Post
+pub step_one : OneReading step-kinds.ps step-kinds.r Both (λ κs arguments x e. both arguments.0 arguments.1.0 x.link x.said) step.Post
 step_one κs arguments x y e f = one_turn
 
 pub step_lent_one : OneHeld step-lent.ended Both (λ κs arguments r e. both arguments.0.now arguments.1.0 e.0.now r) (λ M 𝓤 𝓛 mem run. step-lent.clauses 𝓛 mem run)
@@ -46,7 +47,7 @@ step_lent_one M 𝓤 𝓛 mem run κs a g r s e f =
     let R : SProp 𝓤 = (step-lent.clauses 𝓛 mem run κs a).ensures g s f in
     fact_use 𝓤 _ (fst∗ 𝓤 L R) (λ p. fact_use 𝓤 _ (snd∗ 𝓤 L R) (λ q. fact_i 𝓤 _ (sep 𝓤 L R) (one_turn p q)))
 
-pub step_plain_one : OneReading step-plain-kinds.ps step-plain-kinds.r Both (λ κs arguments x e. both arguments.0 arguments.1.0 x.link x.reply) step-plain.Post
+pub step_plain_one : OneReading step-plain-kinds.ps step-plain-kinds.r Both (λ κs arguments x e. both arguments.0 arguments.1.0 x.link x.said) step-plain.Post
 step_plain_one κs arguments x y e f = one_turn
 
 pub field_sent_one : OneAnswer field-sent-kinds.ps field-sent-kinds.r field-sent.Post

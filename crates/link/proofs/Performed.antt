@@ -4,10 +4,11 @@ use mathlib.Core.Bool.{Bool, true, false, cond, not, ◌&&◌, false≢true}
 use mathlib.Core.List.{List, [], ◌∷◌, ◌++◌, map}
 use Prim.Native.Nat.{ℕ}
 use lib.Dec.{eqb}
+use Rattle.std.proofs.lemmas.List.{map-append}
 use Rattle.unit.specs.declared.Arrived.{Arrived}
 use Rattle.table6.specs.declared.State.{State}
 use Rattle.table6.specs.Words.{2/4/2, 2/10/3, is-2/10/3}
-use Rattle.table6.specs.Cell.{T1, T2, T3, Told, Done, Act, tell, alter, cell, Choice, illegal, does, chosen}
+use Rattle.table6.specs.Cell.{T1, Told, Done, Act, tell, alter, cell, Choice, illegal, does, chosen}
 use Rattle.table6.specs.Order.{signals}
 use Rattle.table6.specs.Summary.{over, Summary, still, then_told, then_done, then, summary, Summed, refused, summed, sum}
 use Rattle.table6.specs.Rows.{Heading, Local-Congestion, heading, printed}
@@ -28,50 +29,13 @@ use Rattle.link.specs.Stored.{view_of, meeting_of, facts_of, summed_up}
 -- SUMMARIES
 
 one_told : (a : Told) (s : Summary) (p : ℕ) (n : Num) (l : Link) → telling a p l (summed_up s p n l) ≡ summed_up (then_told a s) p n l
-one_told Told.AAL-RECEIVED-MESSAGE-indication s p n l = refl
-one_told Told.AAL-LINK-CONGESTED-indication s p n l = refl
-one_told Told.AAL-LINK-CONGESTION-CEASED-indication s p n l = refl
-one_told Told.AAL-IN-SERVICE-indication s p n l = refl
-one_told Told.AAL-OUT-OF-SERVICE-indication s p n l = refl
-one_told Told.AAL-RETRIEVED-MESSAGES-indication s p n l = refl
-one_told Told.AAL-RETRIEVAL-COMPLETE-indication s p n l = refl
-one_told Told.AAL-BSNT-confirm s p n l = refl
-one_told Told.AAL-BSNT-NOT-RETRIEVABLE-confirm s p n l = refl
-one_told Told.AA-ESTABLISH-request s p n l = refl
-one_told Told.AA-ESTABLISH-response s p n l = refl
-one_told (Told.AA-RELEASE-request uu) s p n l = refl
-one_told (Told.AA-DATA-request mu) s p n l = refl
-one_told Told.AA-RECOVER-response s p n l = refl
-one_told Told.AA-RETRIEVE-request s p n l = refl
-one_told Told.MAAL-PROVING-indication s p n l = refl
-one_told Told.MAAL-STOP-PROVING-indication s p n l = refl
-one_told (Told.MAAL-REPORT-indication a b c) s p n l = refl
 one_told (Told.Set T1) s p n l = refl
-one_told (Told.Set T2) s p n l = refl
-one_told (Told.Set T3) s p n l = refl
 one_told (Told.Reset T1) s p n l = refl
-one_told (Told.Reset T2) s p n l = refl
-one_told (Told.Reset T3) s p n l = refl
+one_told a s p n l = refl
 
 one_done : (a : Done) (s : Summary) (p : ℕ) (n : Num) (l : Link) → altering a p n l (summed_up s p n l) ≡ summed_up (then_done a s) p n l
-one_done Done.Set-UPS=NM s p n l = refl
-one_done Done.Set-UPS=EM s p n l = refl
-one_done Done.Set-MPS=N s p n l = refl
-one_done Done.Set-MPS=NM s p n l = refl
-one_done Done.Set-MPS=EM s p n l = refl
-one_done Done.Set-LPO=0 s p n l = refl
-one_done Done.Set-LPO=1 s p n l = refl
-one_done Done.Set-INS-flag s p n l = refl
-one_done Done.Reset-INS-flag s p n l = refl
-one_done Done.Generate-N1 s p n l = refl
-one_done Done.Set-C1=N1 s p n l = refl
-one_done Done.Decrement-C1 s p n l = refl
-one_done Done.connection-up s p n l = refl
-one_done Done.take-BSNT s p n l = refl
 one_done (Done.end T1) s p n l = refl
-one_done (Done.end T2) s p n l = refl
-one_done (Done.end T3) s p n l = refl
-one_done (Done.congested b) s p n l = refl
+one_done a s p n l = refl
 
 one_act : (a : Act) (s : Summary) (p : ℕ) (n : Num) (l : Link) → effect a p n l (summed_up s p n l) ≡ summed_up (then a s) p n l
 one_act (tell a) s p n l = one_told a s p n l
@@ -100,41 +64,9 @@ shown_t3 true = refl
 shown_t3 false = refl
 
 shown : (e : Event) (c1 : ℕ) → meeting_of (view_of e c1) ≡ meeting e c1
-shown event.Message c1 = refl
-shown event.Emergency c1 = refl
-shown event.EmergencyCeases c1 = refl
-shown event.Stop c1 = refl
-shown event.Start c1 = refl
-shown event.RetrieveBsnt c1 = refl
-shown (event.Retrieval n) c1 = refl
-shown event.FlushBuffers c1 = refl
-shown event.Continue c1 = refl
-shown (event.EstablishIndication p) c1 = refl
-shown (event.EstablishConfirm p) c1 = refl
-shown (event.ReleaseIndication f s) c1 = refl
-shown event.ReleaseConfirm c1 = refl
 shown (event.Data Arrived.INS n) c1 = refl
-shown (event.Data Arrived.NM n) c1 = refl
-shown (event.Data (Arrived.Other status) n) c1 = refl
-shown (event.Data Arrived.Short n) c1 = refl
-shown (event.Data Arrived.Long n) c1 = refl
-shown event.Resync c1 = refl
-shown event.Recover c1 = refl
-shown event.UnitData c1 = refl
-shown (event.Retrieve k) c1 = refl
-shown event.RetrieveComplete c1 = refl
-shown event.ProvingUnsuccessful c1 = refl
-shown event.Release c1 = refl
-shown event.Outage c1 = refl
-shown event.Recovered c1 = refl
-shown event.ForceProving c1 = refl
-shown event.ForceEmergency c1 = refl
-shown event.ClearForceModes c1 = refl
-shown (event.Congestion p) c1 = refl
-shown event.CongestionCeased c1 = refl
-shown event.T1 c1 = refl
-shown event.T2 c1 = refl
 shown event.T3 c1 = ap (λ (h : Heading). meets h) (shown_t3 (eqb c1 0))
+shown e c1 = refl
 
 -- THE STEP
 
@@ -143,10 +75,6 @@ unfolding met
 met_there l v = as_performed l (meeting_of v) (chosen (facts l (meeting_of v)) (cell (printed (facts l (meeting_of v)) (heading v.0).row) l.state))
 
 -- CONGESTION BEHIND IT
-
-pub map_append : {A B : Type 0} (f : A → B) (xs ys : List A) → map f (xs ++ ys) ≡ map f xs ++ map f ys
-map_append f [] ys = refl
-map_append f (x ∷ xs) ys = ap (f x ∷◌) (map_append f xs ys)
 
 -- In 2/10/3 congestion does what `gives_up` says, and its signals take nothing: the flag was set already.
 gives_up_lem : (s : Summary) (p : ℕ) (n : Num) (l : Link) → over s.congested l.congested ≡ true →
@@ -157,14 +85,8 @@ gives_up_lem s p n l e =
     ap (λ (b : Bool). Legal (with_congested b (with_state 2/4/2 (summed_up (summary gives_up s) p n l))) (map (signal_of p n l.mps l.ups l.bsnt.num) (signals gives_up))) (sym e)
 
 is_so : (x : State) → is-2/10/3 x ≡ true → x ≡ 2/10/3
-is_so State.S111 e = absurd (false≢true e)
-is_so State.S141 e = absurd (false≢true e)
-is_so State.S212 e = absurd (false≢true e)
-is_so State.S222 e = absurd (false≢true e)
-is_so State.S242 e = absurd (false≢true e)
 is_so State.S2103 e = refl
-is_so State.S2104 e = absurd (false≢true e)
-is_so State.S3105 e = absurd (false≢true e)
+is_so x e = absurd (false≢true e)
 
 -- what goes on does so in its summary
 pub onward_summed : (l : Link) (m : Meeting) (x : Summed) → onward l (outcome_of l m x) ≡ outcome_of l m (goes_on l.congested l.state x)
@@ -185,7 +107,7 @@ onward_summed l m (summed s says next) =
           let t : is-2/10/3 next && over s.congested l.congested ≡ true = right (not (is-2/10/3 l.state)) _ e in
           ap (λ (x : State). behind_these (map tell_all says) (at_meeting (left_there x) (meets Local-Congestion))) (is_so next (left (is-2/10/3 next) _ t))
           ∙ ap (behind_these (map tell_all says)) (gives_up_lem s m.param m.number l (right (is-2/10/3 next) _ t))
-          ∙ ap (Legal (with_state 2/4/2 (summed_up (summary gives_up s) m.param m.number l))) (sym (map_append tell_all says (signals gives_up)))
+          ∙ ap (Legal (with_state 2/4/2 (summed_up (summary gives_up s) m.param m.number l))) (sym (map-append tell_all says (signals gives_up)))
 
 -- what an event does, from the summed-up cell that its view meets
 pub as_met : (l : Link) (e : Event) →

@@ -1,5 +1,5 @@
 -- What the code's views, changes and words stand for. Nothing here has to be believed: the promises of the public functions tie it to specs/Step.antt.
-use Rattle.std.specs.Prelude.{ℕ, ◌-◌, ◌≤◌, ◌<◌, ◌≡◌, Bool, true, false, cond, List, map, eqb}
+use Rattle.std.specs.Prelude.{ℕ, ◌-◌, ◌<◌, ◌≡◌, Bool, true, false, cond, List, map, eqb}
 use Rattle.unit.specs.declared.Arrived.{Arrived}
 use Rattle.unit.specs.declared.Mps.{Mps}
 use Rattle.unit.specs.declared.Ups.{Ups}
@@ -14,6 +14,7 @@ use Rattle.link.specs.declared.Link.{Link}
 use Rattle.link.specs.declared.Event.{Event}
 use Rattle.link.specs.declared.Event.TheVariants as event
 use Rattle.link.specs.declared.View.{View}
+use Rattle.link.specs.declared.Note.{Note}
 use Rattle.link.specs.declared.Signal.{Signal}
 use Rattle.link.specs.Effect.{with_state, with_bsnt, with_c1, taken, not_retrievable, generated}
 use Rattle.link.specs.Signal.{num, none, signal_of}
@@ -129,58 +130,64 @@ risen_of field l = with_c1 (generated l field) (with_bsnt not_retrievable l)
 abbrev pub applied_of : ℕ → Link → Link
 applied_of n l = with_state (over (state_op n) l.state) (summed_up (changed still false n) 0 none l)
 
--- WHAT IS NOTED of a step: what becomes of BSNT and of the congested flag, and the field that was sent, for a writer that leaves the rest as it is. 1: BSNT is the
--- event's number; 2: it is not retrievable any more; 3 and 4: the flag is cleared and set.
-abbrev pub bsnt_noted : ℕ → Num → Bsnt → Bsnt
-bsnt_noted noted n old = cond (eqb noted 1) (taken n) (cond (eqb noted 2) not_retrievable old)
+-- WHAT IS NOTED of a step: what becomes of BSNT and of the congested flag, and the field that was sent, for a writer that leaves the rest as it is.
+abbrev pub bsnt_noted : Note → Num → Bsnt → Bsnt
+bsnt_noted Note.Nothing n old = old
+bsnt_noted Note.Number n old = taken n
+bsnt_noted Note.Forgotten n old = not_retrievable
+bsnt_noted Note.Ceased n old = old
+bsnt_noted Note.Congested n old = old
 
-abbrev pub flag_noted : ℕ → Bool → Bool
-flag_noted noted old = cond (eqb noted 3) false (cond (eqb noted 4) true old)
+abbrev pub flag_noted : Note → Bool → Bool
+flag_noted Note.Nothing old = old
+flag_noted Note.Number old = old
+flag_noted Note.Forgotten old = old
+flag_noted Note.Ceased old = false
+flag_noted Note.Congested old = true
 
 abbrev pub last_sent : ℕ → ℕ → ℕ
 last_sent sent old = cond (eqb sent 0) old (field_sent sent)
 
-pub record Noted (l : Link) (n : Num) (after : Link) (noted sent : ℕ) : Type 0 where
+pub record Noted (l : Link) (n : Num) (after : Link) (noted : Note) (sent : ℕ) : Type 0 where
   pub n1 : after.n1 ≡ l.n1
   pub bsnt : after.bsnt ≡ bsnt_noted noted n l.bsnt
   pub congested : after.congested ≡ flag_noted noted l.congested
   pub last : after.last ≡ last_sent sent l.last
-  pub known : noted ≤ 4
   pub six : sent < 8
 
 -- what is noted of an event by itself
-abbrev pub noted_of : Event → ℕ
-noted_of event.Message = 0
-noted_of event.Emergency = 0
-noted_of event.EmergencyCeases = 0
-noted_of event.Stop = 0
-noted_of event.Start = 0
-noted_of event.RetrieveBsnt = 0
-noted_of (event.Retrieval n) = 0
-noted_of event.FlushBuffers = 0
-noted_of event.Continue = 0
-noted_of (event.EstablishIndication p) = 0
-noted_of (event.EstablishConfirm p) = 0
-noted_of (event.ReleaseIndication f s) = 0
-noted_of event.ReleaseConfirm = 0
-noted_of (event.Data a n) = 1
-noted_of event.Resync = 0
-noted_of event.Recover = 0
-noted_of event.UnitData = 0
-noted_of (event.Retrieve k) = 0
-noted_of event.RetrieveComplete = 0
-noted_of event.ProvingUnsuccessful = 0
-noted_of event.Release = 0
-noted_of event.Outage = 0
-noted_of event.Recovered = 0
-noted_of event.ForceProving = 0
-noted_of event.ForceEmergency = 0
-noted_of event.ClearForceModes = 0
-noted_of (event.Congestion p) = 4
-noted_of event.CongestionCeased = 3
-noted_of event.T1 = 0
-noted_of event.T2 = 0
-noted_of event.T3 = 0
+abbrev pub noted_of : Event → Note
+noted_of event.Message = Note.Nothing
+noted_of event.Emergency = Note.Nothing
+noted_of event.EmergencyCeases = Note.Nothing
+noted_of event.Stop = Note.Nothing
+noted_of event.Start = Note.Nothing
+noted_of event.RetrieveBsnt = Note.Nothing
+noted_of (event.Retrieval n) = Note.Nothing
+noted_of event.FlushBuffers = Note.Nothing
+noted_of event.Continue = Note.Nothing
+noted_of (event.EstablishIndication p) = Note.Nothing
+noted_of (event.EstablishConfirm p) = Note.Nothing
+noted_of (event.ReleaseIndication f s) = Note.Nothing
+noted_of event.ReleaseConfirm = Note.Nothing
+noted_of (event.Data a n) = Note.Number
+noted_of event.Resync = Note.Nothing
+noted_of event.Recover = Note.Nothing
+noted_of event.UnitData = Note.Nothing
+noted_of (event.Retrieve k) = Note.Nothing
+noted_of event.RetrieveComplete = Note.Nothing
+noted_of event.ProvingUnsuccessful = Note.Nothing
+noted_of event.Release = Note.Nothing
+noted_of event.Outage = Note.Nothing
+noted_of event.Recovered = Note.Nothing
+noted_of event.ForceProving = Note.Nothing
+noted_of event.ForceEmergency = Note.Nothing
+noted_of event.ClearForceModes = Note.Nothing
+noted_of (event.Congestion p) = Note.Congested
+noted_of event.CongestionCeased = Note.Ceased
+noted_of event.T1 = Note.Nothing
+noted_of event.T2 = Note.Nothing
+noted_of event.T3 = Note.Nothing
 
 -- SIGNALS
 

@@ -10,7 +10,7 @@ ghost use Rattle.link.specs.Lent.{Turned};
 ghost use Rattle.link.specs.Step.{named, step_of};
 ghost use Rattle.link.specs.Stored.{data_row_of, t3_row_of, view_of, facts_of, arrived_of, risen_of, applied_of, noted_of};
 
-use table6::{Facts, Met, State, effects, rows};
+use table6::{Does, Facts, State, effects, rows};
 use unit::{Arrived, Mps, Status, Ups};
 
 // A number of 24 bits, its highest octet first; or the three values of a REPORT.
@@ -21,7 +21,8 @@ pub struct Num {
     pub c: u8,
 }
 
-// The number of the latest data indication since the latest connection came up. Where none is known it is not retrievable, and 0.
+// The number of the latest data indication since the latest connection came up. Where none is known it is not retrievable, and 0. A flag beside the number, and no
+// `Option`: `step_plain` and `record::pack` take a link whose unknown number is not 0, and `Unpacked` reads it back.
 #[derive(Clone, Copy)]
 pub struct Bsnt {
     pub known: bool,
@@ -29,7 +30,7 @@ pub struct Bsnt {
 }
 
 // A link's record: state, the INS flag, LPO, MPS, UPS, the timers that run, BSNT, C1 and n1; whether the link is congested, and the field of the last release that
-// was sent, 0 before the first.
+// was sent, 0 before the first. That field is an octet, and no `Option` of a status: `record::pack` takes any octet there, and `Unpacked` reads it back.
 #[derive(Clone, Copy)]
 pub struct Link {
     pub state: State,
@@ -65,7 +66,7 @@ pub fn fresh(n1: u16) -> Link
             num: ZERO,
         },
         c1: 0,
-        n1: n1,
+        n1,
         congested: false,
         last: 0,
     }
@@ -202,11 +203,7 @@ fn view_of(e: Event, c1: u16) -> View
 fn em_or_nm(field: u8) -> bool
     ensures { result ≡ named field }
 {
-    if field == unit::EM {
-        true
-    } else {
-        field == unit::NM
-    }
+    field == Status::EM as u8 || field == Status::NM as u8
 }
 
 fn facts_of(l: Link, v: View) -> Facts
@@ -223,183 +220,49 @@ fn facts_of(l: Link, v: View) -> Facts
     }
 }
 
-// The record with one thing altered. It is made anew field by field, and BSNT octet by octet: a copy that is then altered would be kept in memory (D63).
-fn with_bsnt(n: Num, l: Link) -> Link
-    ensures { result ≡ with_bsnt (taken n) l }
-{
-    let state = l.state;
-    let mps = l.mps;
-    let ups = l.ups;
-    Link {
-        state: state,
-        ins: l.ins,
-        lpo: l.lpo,
-        mps: mps,
-        ups: ups,
-        t1: l.t1,
-        t2: l.t2,
-        t3: l.t3,
-        bsnt: Bsnt {
-            known: true,
-            num: Num {
-                a: n.a,
-                b: n.b,
-                c: n.c,
-            },
-        },
-        c1: l.c1,
-        n1: l.n1,
-        congested: l.congested,
-        last: l.last,
-    }
-}
-
-fn with_mps(x: Mps, l: Link) -> Link
-    ensures { result ≡ with_mps x l }
-{
-    let state = l.state;
-    let ups = l.ups;
-    Link {
-        state: state,
-        ins: l.ins,
-        lpo: l.lpo,
-        mps: x,
-        ups: ups,
-        t1: l.t1,
-        t2: l.t2,
-        t3: l.t3,
-        bsnt: Bsnt {
-            known: l.bsnt.known,
-            num: Num {
-                a: l.bsnt.num.a,
-                b: l.bsnt.num.b,
-                c: l.bsnt.num.c,
-            },
-        },
-        c1: l.c1,
-        n1: l.n1,
-        congested: l.congested,
-        last: l.last,
-    }
-}
-
-fn with_ups(x: Ups, l: Link) -> Link
-    ensures { result ≡ with_ups x l }
-{
-    let state = l.state;
-    let mps = l.mps;
-    Link {
-        state: state,
-        ins: l.ins,
-        lpo: l.lpo,
-        mps: mps,
-        ups: x,
-        t1: l.t1,
-        t2: l.t2,
-        t3: l.t3,
-        bsnt: Bsnt {
-            known: l.bsnt.known,
-            num: Num {
-                a: l.bsnt.num.a,
-                b: l.bsnt.num.b,
-                c: l.bsnt.num.c,
-            },
-        },
-        c1: l.c1,
-        n1: l.n1,
-        congested: l.congested,
-        last: l.last,
-    }
-}
-
-fn with_c1(x: u16, l: Link) -> Link
-    ensures { result ≡ with_c1 x l }
-{
-    let state = l.state;
-    let mps = l.mps;
-    let ups = l.ups;
-    Link {
-        state: state,
-        ins: l.ins,
-        lpo: l.lpo,
-        mps: mps,
-        ups: ups,
-        t1: l.t1,
-        t2: l.t2,
-        t3: l.t3,
-        bsnt: Bsnt {
-            known: l.bsnt.known,
-            num: Num {
-                a: l.bsnt.num.a,
-                b: l.bsnt.num.b,
-                c: l.bsnt.num.c,
-            },
-        },
-        c1: x,
-        n1: l.n1,
-        congested: l.congested,
-        last: l.last,
-    }
-}
-
-fn with_congested(x: bool, l: Link) -> Link
-    ensures { result ≡ with_congested x l }
-{
-    let state = l.state;
-    let mps = l.mps;
-    let ups = l.ups;
-    Link {
-        state: state,
-        ins: l.ins,
-        lpo: l.lpo,
-        mps: mps,
-        ups: ups,
-        t1: l.t1,
-        t2: l.t2,
-        t3: l.t3,
-        bsnt: Bsnt {
-            known: l.bsnt.known,
-            num: Num {
-                a: l.bsnt.num.a,
-                b: l.bsnt.num.b,
-                c: l.bsnt.num.c,
-            },
-        },
-        c1: l.c1,
-        n1: l.n1,
-        congested: x,
-        last: l.last,
-    }
-}
-
-fn one_less(c: u16) -> u16
-    ensures { result ≡ c - 1 }
-{
-    if c == 0 { 0 } else { c - 1 }
-}
-
 // What an event does to the link by itself, in whatever state it is accepted. The order of the arms decides where the code lies, and with it some time (D63).
 fn arrived(e: Event, l: Link) -> Link
     ensures { result ≡ arrived_of (view_of e l.c1) l }
 {
     match e {
-        Event::T3 => with_c1(one_less(l.c1), l),
-        Event::ClearForceModes => with_mps(Mps::Neutral, l),
-        Event::ForceEmergency => with_mps(Mps::Emergency, l),
-        Event::ForceProving => with_mps(Mps::Normal, l),
-        Event::Data(_, n) => with_bsnt(n, l),
-        Event::EmergencyCeases => with_ups(Ups::Normal, l),
-        Event::Emergency => with_ups(Ups::Emergency, l),
-        Event::Congestion(_) => with_congested(true, l),
-        Event::CongestionCeased => with_congested(false, l),
+        Event::T3 => Link {
+            c1: l.c1.saturating_sub(1),
+            ..l
+        },
+        Event::ClearForceModes => Link {
+            mps: Mps::Neutral,
+            ..l
+        },
+        Event::ForceEmergency => Link {
+            mps: Mps::Emergency,
+            ..l
+        },
+        Event::ForceProving => Link {
+            mps: Mps::Normal,
+            ..l
+        },
+        Event::Data(_, num) => Link {
+            bsnt: Bsnt { known: true, num },
+            ..l
+        },
+        Event::EmergencyCeases => Link {
+            ups: Ups::Normal,
+            ..l
+        },
+        Event::Emergency => Link {
+            ups: Ups::Emergency,
+            ..l
+        },
+        Event::Congestion(_) => Link {
+            congested: true,
+            ..l
+        },
+        Event::CongestionCeased => Link {
+            congested: false,
+            ..l
+        },
         _ => l,
     }
-}
-
-fn bit(b: bool) -> u8
-    ensures { (result ≡ bit_of b) × (result ≤ 1) }
-{
-    if b { 1 } else { 0 }
 }
 
 // The timers that run after the number of a cell, as bits, T1 lowest.
@@ -408,7 +271,7 @@ fn timers_after(n: u64, l: Link) -> u8
 {
     let kept = (n / 64 % 8) as u8;
     let set = (n / 512 % 8) as u8;
-    ((bit(l.t1) + 2 * bit(l.t2) + 4 * bit(l.t3)) & kept) + set
+    ((u8::from(l.t1) + 2 * u8::from(l.t2) + 4 * u8::from(l.t3)) & kept) + set
 }
 
 // The INS flag and LPO after it, as bits.
@@ -417,7 +280,7 @@ fn flags_after(n: u64, l: Link) -> u8
 {
     let kept = (n / 4096 % 4) as u8;
     let set = (n / 16384 % 4) as u8;
-    ((bit(l.ins) + 2 * bit(l.lpo)) & kept) + set
+    ((u8::from(l.ins) + 2 * u8::from(l.lpo)) & kept) + set
 }
 
 fn ups_after(n: u64, old: Ups) -> Ups
@@ -433,31 +296,18 @@ fn ups_after(n: u64, old: Ups) -> Ups
 fn risen(field: u8, l: Link) -> Link
     ensures { result ≡ risen_of field l }
 {
-    let state = l.state;
-    let mps = l.mps;
-    let ups = l.ups;
-    let c1 = unit::generate_n1(mps, ups, field, l.n1);
     Link {
-        state: state,
-        ins: l.ins,
-        lpo: l.lpo,
-        mps: mps,
-        ups: ups,
-        t1: l.t1,
-        t2: l.t2,
-        t3: l.t3,
         bsnt: Bsnt {
             known: false,
             num: ZERO,
         },
-        c1: c1,
-        n1: l.n1,
-        congested: l.congested,
-        last: l.last,
+        c1: unit::generate_n1(l.mps, l.ups, field, l.n1),
+        ..l
     }
 }
 
-// Which field of a release the number of a cell sends: 0 for none, else one of six.
+// Which field of a release the number of a cell sends: 0 for none, else one of six. Three of its bits, and no `Option`: `field_sent` and `record::rewrite` take every
+// number below 8.
 fn sent(n: u64) -> u8
     ensures { result ≡ sent_by n }
 {
@@ -485,34 +335,18 @@ fn applied(n: u64, l: Link) -> Link
     requires { SoundNumber n }
     ensures { result ≡ applied_of n l }
 {
-    let state = l.state;
-    let mps = l.mps;
-    let ups = l.ups;
     let timers = timers_after(n, l);
     let flags = flags_after(n, l);
-    let ups_next = ups_after(n, ups);
-    let state_next = table6::state_after(n, state);
     Link {
-        state: state_next,
+        state: table6::state_after(n, l.state),
         ins: flags % 2 == 1,
         lpo: flags / 2 % 2 == 1,
-        mps: mps,
-        ups: ups_next,
+        ups: ups_after(n, l.ups),
         t1: timers % 2 == 1,
         t2: timers / 2 % 2 == 1,
         t3: timers / 4 % 2 == 1,
-        bsnt: Bsnt {
-            known: l.bsnt.known,
-            num: Num {
-                a: l.bsnt.num.a,
-                b: l.bsnt.num.b,
-                c: l.bsnt.num.c,
-            },
-        },
-        c1: l.c1,
-        n1: l.n1,
-        congested: l.congested,
         last: last_after(n, l.last),
+        ..l
     }
 }
 
@@ -525,119 +359,107 @@ fn count(n: u64) -> u8
 
 // What is noted of a step, for a writer that leaves the rest of a record as it is: of BSNT and of the congested flag, neither; the event's number is BSNT; BSNT is
 // forgotten; the flag is cleared; it is set.
-pub const NOTHING: u8 = 0;
-
-pub const NUMBER: u8 = 1;
-
-pub const FORGOTTEN: u8 = 2;
-
-pub const CEASED: u8 = 3;
-
-pub const CONGESTED: u8 = 4;
+#[derive(Clone, Copy, PartialEq, Eq)]
+pub enum Note {
+    Nothing,
+    Number,
+    Forgotten,
+    Ceased,
+    Congested,
+}
 
 // What is noted of an event by itself.
-fn noted(e: Event) -> u8
+fn noted(e: Event) -> Note
     ensures { result ≡ noted_of e }
 {
     match e {
-        Event::Data(_, _) => NUMBER,
-        Event::Congestion(_) => CONGESTED,
-        Event::CongestionCeased => CEASED,
-        _ => NOTHING,
+        Event::Data(_, _) => Note::Number,
+        Event::Congestion(_) => Note::Congested,
+        Event::CongestionCeased => Note::Ceased,
+        _ => Note::Nothing,
     }
 }
 
-// What is answered of an event: that it is illegal; or the words of its signals, as effects.rt of table6 has them, and how many they are, what is noted, and which
+// What is answered of a legal event: the words of its signals, as effects.rt of table6 has them, and how many they are, what is noted, and which
 // field of a release was sent. What the signals carry is taken where they are written, from the event's octets and from the record that is left: no cell alters
 // what its signals take.
 #[derive(Clone, Copy)]
-pub enum Reply {
-    Illegal,
-    Legal {
-        words: u64,
-        count: u8,
-        noted: u8,
-        sent: u8,
-    },
+pub struct Said {
+    pub words: u64,
+    pub count: u8,
+    pub noted: Note,
+    pub sent: u8,
 }
 
-// A record after an event, and what is answered.
+// A record after an event, and what is answered: none of an illegal one.
 #[derive(Clone, Copy)]
 pub struct Turn {
     pub link: Link,
-    pub reply: Reply,
+    pub said: Option<Said>,
 }
 
 // A record before its cell, and what is noted so far.
 #[derive(Clone, Copy)]
 struct Begun {
     link: Link,
-    noted: u8,
+    noted: Note,
 }
 
-fn raised(up: bool, field: u8, noted: u8, l: Link) -> Begun
-    ensures { (result.link ≡ cond up (risen_of field l) l) × (result.noted ≡ cond up 2 noted) }
+fn raised(up: bool, field: u8, noted: Note, l: Link) -> Begun
+    ensures { (result.link ≡ cond up (risen_of field l) l) × (result.noted ≡ cond up Note.Forgotten noted) }
 {
     if up {
         return Begun {
             link: risen(field, l),
-            noted: FORGOTTEN,
+            noted: Note::Forgotten,
         };
     }
-    Begun {
-        link: l,
-        noted: noted,
-    }
+    Begun { link: l, noted }
 }
 
 // One event for one link, by value. An illegal event leaves the record as it was.
 fn step(l: Link, e: Event) -> Turn
-    ensures { Turned l e (step_of l e) result.link result.reply }
+    ensures { Turned l e (step_of l e) result.link result.said }
 {
     let v = view_of(e, l.c1);
     let a = arrived(e, l);
     let f = facts_of(a, v);
     let note = noted(e);
     let View(row, param, _, _, _) = v;
-    let state = l.state;
-    match table6::cell(row, state, f, l.congested) {
-        Met::Illegal => Turn {
+    match table6::cell(row, l.state, f, l.congested) {
+        None => Turn {
             link: l,
-            reply: Reply::Illegal,
+            said: None,
         },
-        Met::Does(n, words, up) => {
+        Some(Does { number, words, up }) => {
             let k = raised(up, param, note, a);
-            let next = applied(n, k.link);
             Turn {
-                link: next,
-                reply: Reply::Legal {
-                    words: words,
-                    count: count(n),
+                link: applied(number, k.link),
+                said: Some(Said {
+                    words,
+                    count: count(number),
                     noted: k.noted,
-                    sent: sent(n),
-                },
+                    sent: sent(number),
+                }),
             }
         }
     }
 }
 
 // The same for a record that is lent, and altered there.
-fn step_lent(l: &mut Link, e: Event) -> Reply
+fn step_lent(l: &mut Link, e: Event) -> Option<Said>
     ensures { Turned l.old e (step_of l.old e) l.new result }
 {
     let t = step(*l, e);
     *l = t.link;
-    t.reply
+    t.said
 }
 
 // The same with plain parameters: a copy is lent, so that no caller of this walks its code by hand.
 pub fn step_plain(l: Link, e: Event) -> Turn
-    ensures { Turned l e (step_of l e) result.link result.reply }
+    ensures { Turned l e (step_of l e) result.link result.said }
 {
-    let mut k = l;
-    let reply = step_lent(&mut k, e);
-    Turn {
-        link: k,
-        reply: reply,
-    }
+    let mut link = l;
+    let said = step_lent(&mut link, e);
+    Turn { link, said }
 }

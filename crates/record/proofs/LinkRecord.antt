@@ -1,32 +1,35 @@
 -- The link record's round trips. Assumes nothing.
 use mathlib.Core.Path.{◌≡◌, refl, sym, ap, subst, ◌∙◌}
-use mathlib.Core.Bool.{Bool, true, false, cond, not, ◌&&◌, ◌||◌, and-true, and-false, and_assoc, and_comm, true≢false}
+use mathlib.Core.Bool.{Bool, true, false, cond, not, ◌&&◌, ◌||◌, and-true, and-false, and_assoc, true≢false}
 use mathlib.Core.List.{List, [], ◌∷◌}
+use mathlib.Core.Logic.{◌≢◌}
+use Rattle.std.specs.Prelude.{Option, Some, None}
 use Prim.Native.Nat.{ℕ, zero, suc, ◌+◌, ◌*◌, ◌/◌, ◌%◌, ◌≤◌}
 use native.Mathlib.Omega.{arith}
 use native.Mathlib.Nat.{div-add-mod'}
 use lib.Dec.{eqb, leb}
 use lib.ListN.{length, get_or}
-use borrow.Author.Tests.{eqb-true, leb-true, le-leb, lt-leb, ne_eqb}
+use borrow.Author.Tests.{eq-eqb, eqb-true, leb-true, le-leb, lt-leb, ne_eqb}
+use Rattle.std.specs.Cmp.Derive.{both_true}
+use Rattle.std.proofs.lemmas.Bool.Decides.{nat_tests}
 use Rattle.table6.specs.RefusalCodes.{REFUSED-RECORD}
 use Rattle.unit.specs.declared.Mps.{Mps}
 use Rattle.unit.specs.declared.Ups.{Ups}
 use Rattle.unit.specs.Unit.{none_or_status}
+use Rattle.unit.specs.Named.{mps_named}
 use Rattle.unit.specs.Proving.{mps_code, ups_code}
 use Rattle.unit.specs.Answered.{Answered, refused, accepted}
 use Rattle.table6.specs.declared.State.{State}
+use Rattle.table6.specs.States.{state_named}
 use Rattle.unit.proofs.Proving.{mps_below, ups_below}
 use Rattle.table6.proofs.Lists.{alike}
 use Rattle.table6.proofs.Every.{left, right}
 use Rattle.link.specs.declared.Link.{Link}
 use Rattle.link.specs.Signal.{none}
-use Rattle.record.specs.declared.Slot.{Slot}
-use Rattle.record.specs.declared.SomeState.{SomeState}
-use Rattle.record.specs.declared.SomeMps.{SomeMps}
 use Rattle.octet.specs.Octets.{at, two, bit}
 use Rattle.octet.proofs.Octets.{bit_le, octet_at, high_same, low_same, listing, listed}
 use Rattle.record.specs.LinkRecord.{state_code, state_at, mps_at, ups_at, octets_of, link_of, well_formed, slot_of, found, Unpacked, PackedWell, UnpackedGood, Repacked}
-use Rattle.record.specs.Decoded.{some_state, some_mps, rest_formed}
+use Rattle.record.specs.Decoded.{rest_formed}
 
 state_back : (s : State) → state_at (state_code s) ≡ s
 state_back State.S111 = refl
@@ -57,46 +60,19 @@ only_flag false = refl
 
 -- bits of an octet: the lowest, the second, the third
 first : (x y z : Bool) → eqb ((bit x + 2 * bit y + 4 * bit z) % 2) 1 ≡ x
-first true true true = refl
-first true true false = refl
-first true false true = refl
-first true false false = refl
-first false true true = refl
-first false true false = refl
-first false false true = refl
-first false false false = refl
+first x y z = grind (arith, nat_tests)
 
 second : (x y z : Bool) → eqb ((bit x + 2 * bit y + 4 * bit z) / 2 % 2) 1 ≡ y
-second true true true = refl
-second true true false = refl
-second true false true = refl
-second true false false = refl
-second false true true = refl
-second false true false = refl
-second false false true = refl
-second false false false = refl
+second x y z = grind (arith, nat_tests)
 
 third : (x y z : Bool) → eqb ((bit x + 2 * bit y + 4 * bit z) / 4 % 2) 1 ≡ z
-third true true true = refl
-third true true false = refl
-third true false true = refl
-third true false false = refl
-third false true true = refl
-third false true false = refl
-third false false true = refl
-third false false false = refl
+third x y z = grind (arith, nat_tests)
 
 low_flag : (x y : Bool) → eqb ((bit x + 2 * bit y) % 2) 1 ≡ x
-low_flag true true = refl
-low_flag true false = refl
-low_flag false true = refl
-low_flag false false = refl
+low_flag x y = grind (arith, nat_tests)
 
 high_flag : (x y : Bool) → eqb ((bit x + 2 * bit y) / 2 % 2) 1 ≡ y
-high_flag true true = refl
-high_flag true false = refl
-high_flag false true = refl
-high_flag false false = refl
+high_flag x y = grind (arith, nat_tests)
 
 pub unpacked : Unpacked
 unfolding octets_of link_of
@@ -118,51 +94,35 @@ unpacked l = λ i. record {
 
 -- WHAT WAS PACKED IS WELL-FORMED
 
-both : {a b : Bool} → a ≡ true → b ≡ true → a && b ≡ true
-both p q = rw (p, q)
-
-state_low : (s : State) → leb 1 (state_code s) ≡ true
-state_low State.S111 = refl
-state_low State.S141 = refl
-state_low State.S212 = refl
-state_low State.S222 = refl
-state_low State.S242 = refl
-state_low State.S2103 = refl
-state_low State.S2104 = refl
-state_low State.S3105 = refl
-
-state_high : (s : State) → leb (state_code s) 8 ≡ true
-state_high State.S111 = refl
-state_high State.S141 = refl
-state_high State.S212 = refl
-state_high State.S222 = refl
-state_high State.S242 = refl
-state_high State.S2103 = refl
-state_high State.S2104 = refl
-state_high State.S3105 = refl
+state_within : (s : State) → (leb 1 (state_code s) ≡ true) × (leb (state_code s) 8 ≡ true)
+state_within State.S111 = (refl, refl)
+state_within State.S141 = (refl, refl)
+state_within State.S212 = (refl, refl)
+state_within State.S222 = (refl, refl)
+state_within State.S242 = (refl, refl)
+state_within State.S2103 = (refl, refl)
+state_within State.S2104 = (refl, refl)
+state_within State.S3105 = (refl, refl)
 
 known_or_none : (l : Link) (b : Bool) → l.bsnt.known ≡ b → (b ≡ false → l.bsnt.num ≡ none) →
     eqb (bit l.bsnt.known) 1 || eqb l.bsnt.num.a 0 && eqb l.bsnt.num.b 0 && eqb l.bsnt.num.c 0 ≡ true
 known_or_none l true e h = rw e
 known_or_none l false e h = rw (e, h refl)
 
-within : (m n : ℕ) → m ≤ n → leb m n ≡ true
-within m n h = le-leb m n h
-
 pub packed_well : PackedWell
 unfolding octets_of well_formed
 packed_well l g =
-    both (both (both (both (both (both (both (both (both (both (both (both (both (both (both refl refl)
-    (state_low l.state)) (state_high l.state))
-    (within (bit l.ins + 2 * bit l.lpo) 3 (omega (arith, bit_le l.ins, bit_le l.lpo))))
-    (within (mps_code l.mps) 2 (omega (arith, mps_below l.mps))))
-    (within (ups_code l.ups) 1 (omega (arith, ups_below l.ups))))
-    (within (bit l.t1 + 2 * bit l.t2 + 4 * bit l.t3) 7 (omega (arith, bit_le l.t1, bit_le l.t2, bit_le l.t3))))
-    (within (bit l.bsnt.known) 1 (bit_le l.bsnt.known)))
+    both_true (both_true (both_true (both_true (both_true (both_true (both_true (both_true (both_true (both_true (both_true (both_true (both_true (both_true (both_true refl refl)
+    (state_within l.state).0) (state_within l.state).1)
+    (le-leb (bit l.ins + 2 * bit l.lpo) 3 (omega (arith, bit_le l.ins, bit_le l.lpo))))
+    (le-leb (mps_code l.mps) 2 (omega (arith, mps_below l.mps))))
+    (le-leb (ups_code l.ups) 1 (omega (arith, ups_below l.ups))))
+    (le-leb (bit l.t1 + 2 * bit l.t2 + 4 * bit l.t3) 7 (omega (arith, bit_le l.t1, bit_le l.t2, bit_le l.t3))))
+    (le-leb (bit l.bsnt.known) 1 (bit_le l.bsnt.known)))
     (known_or_none l l.bsnt.known refl g.1))
     refl)
-    (within 1 (two (l.n1 / 256) (l.n1 % 256)) (rw (div-add-mod' l.n1 256) g.0)))
-    (within (bit l.congested) 1 (bit_le l.congested)))
+    (le-leb 1 (two (l.n1 / 256) (l.n1 % 256)) (rw (div-add-mod' l.n1 256) g.0)))
+    (le-leb (bit l.congested) 1 (bit_le l.congested)))
     g.2)
     refl)
     refl
@@ -274,92 +234,92 @@ pub octets_length : (l : Link) → length (octets_of l) ≡ 20
 unfolding octets_of
 octets_length l = refl
 
--- WHAT A SLOT TELLS of the octets in it
+-- WHAT READING TELLS of the octets that were read
 
-abbrev pub SlotTold : List ℕ → Slot → Type 0
-SlotTold r Slot.IllFormed = eqb (length r) 20 && well_formed r ≡ false
-SlotTold r (Slot.Holds l) = (well_formed r ≡ true) × (link_of r ≡ l)
+abbrev pub SlotTold : List ℕ → Option Link → Type 0
+SlotTold r None = eqb (length r) 20 && well_formed r ≡ false
+SlotTold r (Some l) = (well_formed r ≡ true) × (link_of r ≡ l)
 
--- the slot of an answer
-abbrev back : Answered Link → Slot
-back (refused n) = Slot.IllFormed
-back (accepted l) = Slot.Holds l
+-- what was read, of an answer
+abbrev back : Answered Link → Option Link
+back (refused n) = None
+back (accepted l) = Some l
 
-back_is : (s : Slot) → back (found s) ≡ s
-back_is Slot.IllFormed = refl
-back_is (Slot.Holds l) = refl
+back_is : (s : Option Link) → back (found s) ≡ s
+back_is None = refl
+back_is (Some l) = refl
 
-pub one_slot : (s t : Slot) → found s ≡ found t → s ≡ t
+pub one_slot : (s t : Option Link) → found s ≡ found t → s ≡ t
 one_slot s t h = sym (back_is s) ∙ ap back h ∙ back_is t
 
 tells : (r : List ℕ) (b : Bool) → eqb (length r) 20 && well_formed r ≡ b → SlotTold r (back (cond b (accepted (link_of r)) (refused REFUSED-RECORD)))
 tells r false e = e
 tells r true e = (right (eqb (length r) 20) (well_formed r) e, refl)
 
-pub slot_tells : (r : List ℕ) (s : Slot) → found s ≡ slot_of r → SlotTold r s
+pub slot_tells : (r : List ℕ) (s : Option Link) → found s ≡ slot_of r → SlotTold r s
 unfolding slot_of
 slot_tells r s h = subst (SlotTold r) (ap back (sym h) ∙ back_is s) (tells r (eqb (length r) 20 && well_formed r) refl)
 
 -- STATE AND MPS, decoded and tested at once
 
-abbrev pub StateTold : ℕ → SomeState → Type 0
-StateTold c SomeState.None = leb 1 c && leb c 8 ≡ false
-StateTold c (SomeState.Of s) = (leb 1 c ≡ true) × (leb c 8 ≡ true) × (s ≡ state_at c)
+high_refused : (c : ℕ) → leb c 8 ≡ false → leb 1 c && leb c 8 ≡ false
+high_refused c h = rw h (and-false (leb 1 c))
 
-pub state_tells : (c : ℕ) → StateTold c (some_state c)
-state_tells zero = refl
-state_tells (suc zero) = (refl, refl, refl)
-state_tells (suc (suc zero)) = (refl, refl, refl)
-state_tells (suc (suc (suc zero))) = (refl, refl, refl)
-state_tells (suc (suc (suc (suc zero)))) = (refl, refl, refl)
-state_tells (suc (suc (suc (suc (suc zero))))) = (refl, refl, refl)
-state_tells (suc (suc (suc (suc (suc (suc zero)))))) = (refl, refl, refl)
-state_tells (suc (suc (suc (suc (suc (suc (suc zero))))))) = (refl, refl, refl)
-state_tells (suc (suc (suc (suc (suc (suc (suc (suc zero)))))))) = (refl, refl, refl)
-state_tells (suc (suc (suc (suc (suc (suc (suc (suc (suc c))))))))) =
-    ap (λ (x : Bool). leb 1 (suc (suc (suc (suc (suc (suc (suc (suc (suc c))))))))) && x) (lt-leb (suc (suc (suc (suc (suc (suc (suc (suc (suc c))))))))) 8 (omega arith)) ∙ and-false (leb 1 (suc (suc (suc (suc (suc (suc (suc (suc (suc c))))))))))
+abbrev StateTold : ℕ → Option State → Type 0
+StateTold c None = leb 1 c && leb c 8 ≡ false
+StateTold c (Some s) = (leb 1 c ≡ true) × (leb c 8 ≡ true) × (s ≡ state_at c)
 
-abbrev pub MpsTold : ℕ → SomeMps → Type 0
-MpsTold c SomeMps.None = leb c 2 ≡ false
-MpsTold c (SomeMps.Of m) = (leb c 2 ≡ true) × (m ≡ mps_at c)
+state_told : (c : ℕ) → StateTold c (state_named c)
+state_told zero = refl
+state_told (suc zero) = (refl, refl, refl)
+state_told (suc (suc zero)) = (refl, refl, refl)
+state_told (suc (suc (suc zero))) = (refl, refl, refl)
+state_told (suc (suc (suc (suc zero)))) = (refl, refl, refl)
+state_told (suc (suc (suc (suc (suc zero))))) = (refl, refl, refl)
+state_told (suc (suc (suc (suc (suc (suc zero)))))) = (refl, refl, refl)
+state_told (suc (suc (suc (suc (suc (suc (suc zero))))))) = (refl, refl, refl)
+state_told (suc (suc (suc (suc (suc (suc (suc (suc zero)))))))) = (refl, refl, refl)
+state_told (suc (suc (suc (suc (suc (suc (suc (suc (suc c))))))))) = high_refused (suc (suc (suc (suc (suc (suc (suc (suc (suc c))))))))) (lt-leb (suc (suc (suc (suc (suc (suc (suc (suc (suc c))))))))) 8 (omega arith))
 
-pub mps_tells : (c : ℕ) → MpsTold c (some_mps c)
-mps_tells zero = (refl, refl)
-mps_tells (suc zero) = (refl, refl)
-mps_tells (suc (suc zero)) = (refl, refl)
-mps_tells (suc (suc (suc c))) = lt-leb (suc (suc (suc c))) 2 (omega arith)
+abbrev MpsTold : ℕ → Option Mps → Type 0
+MpsTold c None = leb c 2 ≡ false
+MpsTold c (Some m) = (leb c 2 ≡ true) × (m ≡ mps_at c)
+
+mps_told : (c : ℕ) → MpsTold c (mps_named c)
+mps_told zero = (refl, refl)
+mps_told (suc zero) = (refl, refl)
+mps_told (suc (suc zero)) = (refl, refl)
+mps_told (suc (suc (suc c))) = lt-leb (suc (suc (suc c))) 2 (omega arith)
+
+state_tells : (c : ℕ) (s : Option State) → s ≡ state_named c → StateTold c s
+state_tells c s e = subst (StateTold c) (sym e) (state_told c)
+
+mps_tells : (c : ℕ) (m : Option Mps) → m ≡ mps_named c → MpsTold c m
+mps_tells c m e = subst (MpsTold c) (sym e) (mps_told c)
 
 not_both : (a b c : Bool) → b && c ≡ false → a && b && c ≡ false
 not_both a b c h = and_assoc a b c ∙ ap (λ (x : Bool). a && x) h ∙ and-false a
 
-pub no_state : (r : List ℕ) → leb 1 (at r 2) && leb (at r 2) 8 ≡ false → well_formed r ≡ false
+no_state : (r : List ℕ) → leb 1 (at r 2) && leb (at r 2) 8 ≡ false → well_formed r ≡ false
 unfolding well_formed
 no_state r h = rw (not_both (eqb (at r 0) 76 && eqb (at r 1) 78) (leb 1 (at r 2)) (leb (at r 2) 8) h)
 
-pub no_mps : (r : List ℕ) → leb (at r 4) 2 ≡ false → well_formed r ≡ false
+no_mps : (r : List ℕ) → leb (at r 4) 2 ≡ false → well_formed r ≡ false
 unfolding well_formed
 no_mps r h = simp (h, and-false)
 
 -- the tests of n1 and of the two zeros, as the code has them
 n1_tested : (a b : ℕ) → not (eqb a 0) || not (eqb b 0) ≡ leb 1 (two a b)
-n1_tested zero zero = refl
-n1_tested zero (suc b) = rw (ne_eqb (suc b) 0 (λ (e : suc b ≡ 0). omega arith), le-leb 1 (two 0 (suc b)) (omega arith))
-n1_tested (suc a) b = rw (ne_eqb (suc a) 0 (λ (e : suc a ≡ 0). omega arith), le-leb 1 (two (suc a) b) (omega arith))
+n1_tested a b = grind (arith, nat_tests)
 
 zeros_tested : (a b : ℕ) → eqb (a + 256 * b) 0 ≡ (eqb a 0 && eqb b 0)
-zeros_tested zero zero = refl
-zeros_tested zero (suc b) = rw (ne_eqb (0 + 256 * suc b) 0 (λ (e : 0 + 256 * suc b ≡ 0). omega arith), ne_eqb (suc b) 0 (λ (e : suc b ≡ 0). omega arith))
-zeros_tested (suc a) b = rw (ne_eqb (suc a + 256 * b) 0 (λ (e : suc a + 256 * b ≡ 0). omega arith), ne_eqb (suc a) 0 (λ (e : suc a ≡ 0). omega arith))
+zeros_tested a b = grind (arith, nat_tests)
 
 -- and their order
-and_left_comm : (a b c : Bool) → a && (b && c) ≡ b && (a && c)
-and_left_comm true b c = refl
-and_left_comm false b c = sym (and-false b)
-
 reordered : (p a b c d e f g h i j k : Bool) → p && a && f && c && g && b && i && (j && k) && d && e && h ≡ p && a && b && c && d && e && f && g && h && i && j && k
-reordered p a b c d e f g h i j k = simp (and_assoc, and_comm, and_left_comm)
+reordered p a b c d e f g h i j k = grind (arith, nat_tests)
 
-pub the_rest : (r : List ℕ) → leb 1 (at r 2) ≡ true → leb (at r 2) 8 ≡ true → leb (at r 4) 2 ≡ true → rest_formed r ≡ well_formed r
+the_rest : (r : List ℕ) → leb 1 (at r 2) ≡ true → leb (at r 2) 8 ≡ true → leb (at r 4) 2 ≡ true → rest_formed r ≡ well_formed r
 unfolding well_formed rest_formed
 the_rest r h k m =
     rw (n1_tested (at r 14) (at r 15), zeros_tested (at r 18) (at r 19))
@@ -367,3 +327,35 @@ the_rest r h k m =
     (eqb (at r 7) 1 || eqb (at r 8) 0 && eqb (at r 9) 0 && eqb (at r 10) 0) (eqb (at r 11) 0) (leb 1 (two (at r 14) (at r 15))) (leb (at r 16) 1) (none_or_status (at r 17))
     (eqb (at r 18) 0) (eqb (at r 19) 0)
     ∙ simp (h, k, m, and-true))
+
+-- what octets are as a link's record, by their length and by what was decoded and tested of them
+pub otherwise_long : (r : List ℕ) → length r ≢ 20 → slot_of r ≡ refused REFUSED-RECORD
+unfolding slot_of
+otherwise_long r n = rw (ne_eqb (length r) 20 n)
+
+pub without_state : (r : List ℕ) → length r ≡ 20 → state_named (at r 2) ≡ None → slot_of r ≡ refused REFUSED-RECORD
+unfolding slot_of
+without_state r n h = rw (no_state r (state_tells (at r 2) None (sym h)), and-false)
+
+pub without_mps : (r : List ℕ) → length r ≡ 20 → mps_named (at r 4) ≡ None → slot_of r ≡ refused REFUSED-RECORD
+unfolding slot_of
+without_mps r n h = rw (no_mps r (mps_tells (at r 4) None (sym h)), and-false)
+
+with_both : (r : List ℕ) (s : Option State) (m : Option Mps) (b : Bool) → length r ≡ 20 → state_named (at r 2) ≡ s → mps_named (at r 4) ≡ m → s ≢ None → m ≢ None →
+    rest_formed r ≡ b → slot_of r ≡ cond b (accepted (link_of r)) (refused REFUSED-RECORD)
+unfolding slot_of
+with_both r None m b n h k x y e = absurd (x refl)
+with_both r (Some s) None b n h k x y e = absurd (y refl)
+with_both r (Some s) (Some m) b n h k x y e =
+    let p = state_tells (at r 2) (Some s) (sym h) in
+    let q = mps_tells (at r 4) (Some m) (sym k) in
+    rw (← the_rest r p.0 p.1 q.0, e, eq-eqb (length r) 20 n)
+
+pub with_the_rest : (r : List ℕ) → length r ≡ 20 → state_named (at r 2) ≢ None → mps_named (at r 4) ≢ None → rest_formed r ≡ true → slot_of r ≡ accepted (link_of r)
+with_the_rest r n h k e = with_both r (state_named (at r 2)) (mps_named (at r 4)) true n refl refl h k e
+
+pub without_the_rest : (r : List ℕ) → length r ≡ 20 → state_named (at r 2) ≢ None → mps_named (at r 4) ≢ None → rest_formed r ≡ false → slot_of r ≡ refused REFUSED-RECORD
+without_the_rest r n h k e = with_both r (state_named (at r 2)) (mps_named (at r 4)) false n refl refl h k e
+
+-- what `read_link` is proved by
+pub ruleset reading = (otherwise_long, without_state, without_mps, with_the_rest, without_the_rest)

@@ -1,5 +1,5 @@
 -- The link record of 2026-07, document 01's with another mark and four octets behind it: twenty octets, what they hold, and when they are well-formed.
-use Rattle.std.specs.Prelude.{ℕ, ◌+◌, ◌*◌, ◌/◌, ◌%◌, ◌≤◌, ◌≡◌, Bool, true, cond, ◌&&◌, ◌||◌, List, [], ◌∷◌, eqb, leb, get_or, length}
+use Rattle.std.specs.Prelude.{ℕ, ◌+◌, ◌*◌, ◌/◌, ◌%◌, ◌≤◌, ◌≡◌, Bool, true, cond, ◌&&◌, ◌||◌, List, [], ◌∷◌, eqb, leb, get_or, length, Option, Some, None}
 use Rattle.unit.specs.declared.Mps.{Mps}
 use Rattle.unit.specs.declared.Ups.{Ups}
 use Rattle.unit.specs.Unit.{none_or_status}
@@ -9,7 +9,6 @@ use Rattle.table6.specs.declared.State.{State}
 use Rattle.table6.specs.RefusalCodes.{REFUSED-RECORD}
 use Rattle.link.specs.declared.Link.{Link}
 use Rattle.link.specs.Effect.{NoneIsZero}
-use Rattle.record.specs.declared.Slot.{Slot}
 use Rattle.octet.specs.Octets.{Octets, at, two, bit}
 
 abbrev pub record_octets : ℕ
@@ -103,9 +102,9 @@ well_formed r =
     && eqb (at r 19) 0
 
 -- The reader's answers in document 01's number and values.
-abbrev pub found : Slot → Answered Link
-found Slot.IllFormed = refused REFUSED-RECORD
-found (Slot.Holds l) = accepted l
+abbrev pub found : Option Link → Answered Link
+found None = refused REFUSED-RECORD
+found (Some l) = accepted l
 
 -- What octets are as a link's record: a link, or refused by check 6.
 unfoldable pub slot_of : List ℕ → Answered Link

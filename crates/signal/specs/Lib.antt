@@ -1,2 +1,3 @@
 pub mod SignalRecord
+pub mod Source
 pub mod Writing

@@ -2,6 +2,7 @@
 #![tactic(auto)]
 
 mod report;
+mod source;
 
 ghost use Rattle.std.specs.Prelude.{◌≡◌, ◌++◌, ◌+◌, ◌*◌, ◌≤◌, cond, ltb, length, drop, set};
 ghost use Rattle.unit.specs.Unit.{code, unit_of};
@@ -10,17 +11,22 @@ ghost use Rattle.table6.specs.Stored.{word_at};
 ghost use Rattle.link.specs.Kept.{brought};
 ghost use Rattle.link.specs.Stored.{meant_by, signals_of};
 ghost use Rattle.octet.specs.Octets.{over, put_at};
-ghost use Rattle.record.specs.LinkRecord.{record_octets, link_of};
+ghost use Rattle.record.specs.LinkRecord.{link_of};
 ghost use Rattle.event.specs.Frame.{head_octets, message_octets, link_at, length_at, message_of};
 ghost use Rattle.signal.specs.SignalRecord.{body_of, signal_octets, joined, Put};
+ghost use Rattle.signal.specs.Source.{brought_by};
 ghost use Rattle.signal.specs.Writing.{given, Whole, front_of, from_code, PutCode, fixed_words, fixed_at, carrying_at, Ran, Halts};
 
 use event::HEAD;
 use link::Num;
 use octet::{put, put_at, wide};
+use record::RECORD;
 use report::{ALN, ANS, CC, CD, INS, LR, NONE, OOS, PDUT, PE, RR, SR, SREC, SSCOP_UU, UDR};
+use source::Source;
 use table6::{effects, signals};
-use unit::{Mps, Status};
+// Without `signals::` before them an arm of these, which has a unit's code too, takes one line.
+use table6::signals::{ESTABLISH_REQUEST, ESTABLISH_RESPONSE, RELEASE_REQUEST};
+use unit::Status;
 
 // The mark of a signal.
 const SG: [u8; 2] = *b"SG";
@@ -46,12 +52,12 @@ fn fixed(w: u64) -> [u8; 8]
         effects::OUT => [signals::OUT_OF_SERVICE, 0, 0, 0, 0, 0, 0, 0],
         effects::RETRIEVAL_COMPLETE => [signals::RETRIEVAL_COMPLETE, 0, 0, 0, 0, 0, 0, 0],
         effects::BSNT_NOT_RETRIEVABLE => [signals::BSNT_NOT_RETRIEVABLE, 0, 0, 0, 0, 0, 0, 0],
-        effects::RELEASE_OOS => [signals::RELEASE_REQUEST, unit::OOS, 0, 0, 0, 0, 0, 0],
-        effects::RELEASE_PO => [signals::RELEASE_REQUEST, unit::PO, 0, 0, 0, 0, 0, 0],
-        effects::RELEASE_ANS => [signals::RELEASE_REQUEST, unit::ANS, 0, 0, 0, 0, 0, 0],
-        effects::RELEASE_MI => [signals::RELEASE_REQUEST, unit::MI, 0, 0, 0, 0, 0, 0],
-        effects::RELEASE_PE => [signals::RELEASE_REQUEST, unit::PE, 0, 0, 0, 0, 0, 0],
-        effects::RELEASE_PNS => [signals::RELEASE_REQUEST, unit::PNS, 0, 0, 0, 0, 0, 0],
+        effects::RELEASE_OOS => [RELEASE_REQUEST, Status::OOS as u8, 0, 0, 0, 0, 0, 0],
+        effects::RELEASE_PO => [RELEASE_REQUEST, Status::PO as u8, 0, 0, 0, 0, 0, 0],
+        effects::RELEASE_ANS => [RELEASE_REQUEST, Status::ANS as u8, 0, 0, 0, 0, 0, 0],
+        effects::RELEASE_MI => [RELEASE_REQUEST, Status::MI as u8, 0, 0, 0, 0, 0, 0],
+        effects::RELEASE_PE => [RELEASE_REQUEST, Status::PE as u8, 0, 0, 0, 0, 0, 0],
+        effects::RELEASE_PNS => [RELEASE_REQUEST, Status::PNS as u8, 0, 0, 0, 0, 0, 0],
         effects::RECOVER_RESPONSE => [signals::RECOVER_RESPONSE, 0, 0, 0, 0, 0, 0, 0],
         effects::PROVE => [signals::START_PROVING, 0, 0, 0, 0, 0, 0, 0],
         effects::STOP => [signals::STOP_PROVING, 0, 0, 0, 0, 0, 0, 0],
@@ -92,8 +98,8 @@ fn carrying(w: u64) -> [u8; 8]
         effects::RETRIEVE_REQUEST => [signals::RETRIEVE_REQUEST, 0, 0, 0, 0, 0, 0, 0],
         effects::LINK_CONGESTED => [signals::LINK_CONGESTED, 0, 0, 0, 0, 0, 0, 0],
         effects::REPORT_RR_UU => [signals::REPORT, 0, RR, NONE, SSCOP_UU, 0, 0, 0],
-        effects::ESTABLISH_REQUEST => [signals::ESTABLISH_REQUEST, unit::NM, 0, 0, 0, 0, 0, 0],
-        effects::ESTABLISH_RESPONSE => [signals::ESTABLISH_RESPONSE, unit::NM, 0, 0, 0, 0, 0, 0],
+        effects::ESTABLISH_REQUEST => [ESTABLISH_REQUEST, Status::NM as u8, 0, 0, 0, 0, 0, 0],
+        effects::ESTABLISH_RESPONSE => [ESTABLISH_RESPONSE, Status::NM as u8, 0, 0, 0, 0, 0, 0],
         effects::UNIT_NM => [signals::DATA_REQUEST, 0, 0, 0, 0, 0, 0, UNIT],
         effects::UNIT_INS => [signals::DATA_REQUEST, 0, 0, 0, 0, 0, 0, UNIT],
         effects::RECEIVED_MESSAGE => [signals::RECEIVED_MESSAGE, 0, 0, 0, 0, 0, 0, 0],
@@ -145,18 +151,12 @@ fn with_message(out: &mut [u8], e: &[u8]) -> usize
     end
 }
 
-// The field that Table 8 offers to the peer, by MPS and UPS in a link's record. MPS is told by its octet, which takes less flash than a state made of it first.
+// The field that Table 8 offers to the peer, by MPS and UPS in a link's record.
 #[tactic(auto, unfolding(record::specs::LinkRecord::link_of))]
-fn offered(left: &[u8]) -> u8
-    requires { length left.now ≡ record_octets }
+fn offered(left: &[u8; RECORD]) -> u8
     ensures { result ≡ code (table8 (link_of left.now).mps (link_of left.now).ups) }
 {
-    let ups = record::ups_at(left[5]);
-    match left[4] {
-        0 => unit::sscop_uu(Mps::Neutral, ups).code(),
-        1 => unit::sscop_uu(Mps::Normal, ups).code(),
-        _ => unit::sscop_uu(Mps::Emergency, ups).code(),
-    }
+    unit::sscop_uu(record::mps_at(left[4]), record::ups_at(left[5])).code()
 }
 
 // The unit of a word that sends one: the two are written by one code, which takes less flash.
@@ -170,14 +170,15 @@ fn unit_in(w: u64) -> Status
 }
 
 // Writes a signal that carries something from octet 4 on, and answers its length. What it carries is told by ranges of words.
-fn put_carrying(out: &mut [u8], w: u64, left: &[u8], e: &[u8]) -> usize
-    requires { (fixed_words ≤ w) × (length left.now ≡ record_octets) × Whole e.now × (head_octets + length (body_of (meant_by (given (link_of left.now) e.now) (word_at w)).carries (message_of e.now)) ≤ length out.old) }
-    ensures { PutCode (from_code (message_of e.now) (meant_by (given (link_of left.now) e.now) (word_at w))) out.old result out.new }
+fn put_carrying(out: &mut [u8], w: u64, source: Source) -> usize
+    requires { (fixed_words ≤ w) × (head_octets + length (body_of (meant_by (brought_by source) (word_at w)).carries (message_of source.event.now)) ≤ length out.old) }
+    ensures { PutCode (from_code (message_of source.entry.event.now) (meant_by (brought_by source.entry) (word_at w))) out.old result out.new }
 {
+    let Source { left, event } = source;
     let eight = carrying(w);
     put_at(out, CODE, &eight);
     if effects::RECEIVED_MESSAGE <= w {
-        return with_message(out, e);
+        return with_message(out, event);
     }
     if effects::UNIT_NM <= w {
         return with_unit(out, unit_in(w));
@@ -186,24 +187,20 @@ fn put_carrying(out: &mut [u8], w: u64, left: &[u8], e: &[u8]) -> usize
         return with_param(out, offered(left));
     }
     if effects::LINK_CONGESTED <= w {
-        return with_param(out, e[5]);
+        return with_param(out, event[5]);
     }
-    if effects::RETRIEVE_REQUEST <= w {
-        return with_number(
-            out,
-            Num {
-                a: e[6],
-                b: e[7],
-                c: e[8],
-            },
-        );
-    }
+    // The octets are chosen first and read behind that, by one code: 65 octets of flash less.
+    let (from, at) = if effects::RETRIEVE_REQUEST <= w {
+        (event, 6)
+    } else {
+        (&left[..], 8)
+    };
     with_number(
         out,
         Num {
-            a: left[8],
-            b: left[9],
-            c: left[10],
+            a: from[at],
+            b: from[at + 1],
+            c: from[at + 2],
         },
     )
 }
@@ -228,12 +225,12 @@ fn put_known(out: &mut [u8], front: [u8; 4], w: u64)
 }
 
 // Writes one that carries something, and answers its length.
-fn put_other(out: &mut [u8], front: [u8; 4], w: u64, left: &[u8], e: &[u8]) -> usize
-    requires { (fixed_words ≤ w) × (front ≡ front_of e.now) × (length left.now ≡ record_octets) × Whole e.now × (head_octets + length (body_of (meant_by (given (link_of left.now) e.now) (word_at w)).carries (message_of e.now)) ≤ length out.old) }
-    ensures { Put (signal_octets (link_at e.now) (message_of e.now) (meant_by (given (link_of left.now) e.now) (word_at w))) out.old result out.new }
+fn put_other(out: &mut [u8], front: [u8; 4], w: u64, source: Source) -> usize
+    requires { (fixed_words ≤ w) × (front ≡ front_of source.event.now) × (head_octets + length (body_of (meant_by (brought_by source) (word_at w)).carries (message_of source.event.now)) ≤ length out.old) }
+    ensures { Put (signal_octets (link_at source.entry.event.now) (message_of source.entry.event.now) (meant_by (brought_by source.entry) (word_at w))) out.old result out.new }
 {
     put(out, &front);
-    put_carrying(out, w, left, e)
+    put_carrying(out, w, source)
 }
 
 // How far the writer is: the octets that are written, the words that are left, the lowest next, and how many they are.
@@ -244,7 +241,8 @@ struct Run {
     left: u8,
 }
 
-// Writes signals one behind the other up to one that carries something, or to the end.
+// Writes signals one behind the other up to one that carries something, or to the end. That one stands outside the loop: inside it
+// cost 15 to 25 instructions more in a call with signals (D63). No `for`: words are taken from a number's lowest octet on, and it may stop before the last.
 fn put_run(out: &mut [u8], front: [u8; 4], run: Run) -> Run
     requires { (length front ≡ 4) × (run.at + head_octets * run.left ≤ length out.old) }
     ensures { Ran front run out.old result out.new × Halts result }
@@ -258,17 +256,13 @@ fn put_run(out: &mut [u8], front: [u8; 4], run: Run) -> Run
         rest = rest / 256;
         left -= 1;
     }
-    Run {
-        at: at,
-        rest: rest,
-        left: left,
-    }
+    Run { at, rest, left }
 }
 
 // Writes what a step says over the front of out, by its words and the link's record as it is left, one record behind the other, and answers the length of it all. No
 // step says two signals that carry something: so there is no loop around the one, and what it takes is made ready for it alone.
-pub fn put_all(out: &mut [u8], words: u64, count: u8, left: &[u8], e: &[u8]) -> usize
-    requires { (length left.now ≡ record_octets) × (head_octets ≤ length e.now) × (length_at e.now ≡ length (message_of e.now)) × (length (message_of e.now) ≤ message_octets) × (brought (signals_of count words (given (link_of left.now) e.now)) ≤ 1) × (length (joined (link_at e.now) (message_of e.now) (signals_of count words (given (link_of left.now) e.now))) ≤ length out.old) }
+pub fn put_all(out: &mut [u8], words: u64, count: u8, left: &[u8; RECORD], e: &[u8]) -> usize
+    requires { (head_octets ≤ length e.now) × (length_at e.now ≡ length (message_of e.now)) × (length (message_of e.now) ≤ message_octets) × (brought (signals_of count words (given (link_of left.now) e.now)) ≤ 1) × (length (joined (link_at e.now) (message_of e.now) (signals_of count words (given (link_of left.now) e.now))) ≤ length out.old) }
     ensures { Put (joined (link_at e.now) (message_of e.now) (signals_of count words (given (link_of left.now) e.now))) out.old result out.new }
 {
     let front = front_of(e);
@@ -285,7 +279,12 @@ pub fn put_all(out: &mut [u8], words: u64, count: u8, left: &[u8], e: &[u8]) -> 
     if first.left == 0 {
         return at;
     }
-    let m = put_other(&mut out[at..], front, first.rest % 256, left, e);
+    let m = put_other(
+        &mut out[at..],
+        front,
+        first.rest % 256,
+        Source { left, event: e },
+    );
     let last = put_run(
         out,
         front,

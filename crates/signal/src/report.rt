@@ -1,4 +1,5 @@
-// The values of a REPORT, as document 01 and docs/CODES.md number them.
+// The values of a REPORT, as document 01 and docs/CODES.md number them. Numbers and no enums: they are octets 6 to 8 of a signal's record, which C reads.
+// They stand in arrays of octets alone, where an enum would be cast at each place.
 
 // "-", in place of any of the three.
 pub const NONE: u8 = 0;

@@ -1,4 +1,6 @@
 -- A burst's single calls: how one more is added to those that are done. Assumes nothing.
+use Rattle.std.specs.Prelude.{Option, Some, None}
+use Rattle.std.proofs.lemmas.Option.{none-some, cond_some}
 use mathlib.Core.Path.{◌≡◌, refl, sym, ap, ◌∙◌}
 use mathlib.Core.Bool.{Bool, true, false, cond, or-true}
 use mathlib.Core.List.{List, [], ◌∷◌, ◌++◌, append_assoc, append-nil}
@@ -7,7 +9,7 @@ use native.Mathlib.Omega.{arith}
 use lib.Dec.{eqb, ltb}
 use lib.ListN.{length, take, drop, set, length-append, length-drop, length-set, take-append-drop}
 use lib.Seq.{take_all, length-take-le, drop-drop}
-use borrow.Author.Tests.{lt-ltb, le-ltb, ltb-true, ltb-false, ne_eqb}
+use borrow.Author.Tests.{lt-ltb, le-ltb, ltb-true, ltb-false}
 use Rattle.link.specs.declared.Signal.{Signal}
 use Rattle.octet.specs.Octets.{over, put_at}
 use Rattle.octet.proofs.Over.{length_over, over_rest, behind, lent}
@@ -32,20 +34,6 @@ front_long es s = length-take-le (12 + length_at es) es (well_formed_lem es s).w
 -- a part from i to the end
 pub rest_is : (l : List ℕ) (i : ℕ) → take (length l - i) (drop i l) ≡ drop i l
 rest_is l i = take_all (length l - i) (drop i l) (simp length-drop (omega arith))
-
--- what the reader of the front tells
-module _ (es : List ℕ) (n : ℕ) where
-  pub none_there : n ≡ cond (sound es) (12 + length_at es) 0 → n ≡ 0 → sound es ≡ false
-  none_there h z = by (sound es) h where
-    by : (b : Bool) → n ≡ cond b (12 + length_at es) 0 → b ≡ false
-    by true g = absurd (omega (arith, g, z))
-    by false g = refl
-
-  pub one_there : n ≡ cond (sound es) (12 + length_at es) 0 → (n ≡ 0 → ⊥) → (sound es ≡ true) × (n ≡ 12 + length_at es)
-  one_there h z = by (sound es) h where
-    by : (b : Bool) → n ≡ cond b (12 + length_at es) 0 → (b ≡ true) × (n ≡ 12 + length_at es)
-    by true g = (refl, g)
-    by false g = absurd (z g)
 
 pub no_frame : (es : List ℕ) → sound es ≡ false → frames es ≡ []
 no_frame es s = frames_one_by_one es ∙ rw s
@@ -93,6 +81,36 @@ few_frames es = few (frames es) es refl
 -- those behind the first, from its place on
 pub behind_from : (es : List ℕ) (at n : ℕ) → n ≡ 12 + length_at (drop at es) → events.behind (drop at es) ≡ drop (at + n) es
 behind_from es at n h = ap (λ (k : ℕ). drop k (drop at es)) (sym h) ∙ drop-drop n at es
+
+-- WHAT THE READER OF THE FRONT TELLS of the events from `at` on: that none is there, or one of n octets, which lies within them and leaves one fewer.
+abbrev pub told : List ℕ → ℕ → Option ℕ
+told es at = let rest = take (length es - at) (drop at es) in cond (sound rest) (Some (12 + length_at rest)) None
+
+told_is : (es : List ℕ) (at : ℕ) → told es at ≡ cond (sound (drop at es)) (Some (12 + length_at (drop at es))) None
+told_is es at = ap (λ (l : List ℕ). cond (sound l) (Some (12 + length_at l)) None) (rest_is es at)
+
+pub none_there : (es : List ℕ) (at : ℕ) → None ≡ told es at → sound (drop at es) ≡ false
+none_there es at h = by (sound (drop at es)) (h ∙ told_is es at) where
+  by : (b : Bool) → None ≡ cond b (Some (12 + length_at (drop at es))) None → b ≡ false
+  by true g = absurd (none-some (12 + length_at (drop at es)) g)
+  by false g = refl
+
+pub record Next (es : List ℕ) (at n : ℕ) : Type 0 where
+  pub here : sound (drop at es) ≡ true
+  pub size : n ≡ 12 + length_at (drop at es)
+  pub inside : at + n ≤ length es
+  pub fewer : length (frames (drop at es)) ≡ 1 + length (frames (drop (at + n) es))
+
+pub one_there : (es : List ℕ) (at n : ℕ) → at ≤ length es → Some n ≡ told es at → Next es at n
+one_there es at n i h =
+    let rest = drop at es in
+    let t = cond_some (sound rest) (12 + length_at rest) n (sym (told_is es at) ∙ sym h) in
+    record {
+      here = t.0;
+      size = sym t.1;
+      inside = omega (arith, t.1, (well_formed_lem rest t.0).within, length-drop at es, i);
+      fewer = omega (arith, ap length (a_frame rest t.0), ap (λ (r : List ℕ). length (frames r)) (behind_from es at n (sym t.1)));
+    }
 
 -- ONE CALL: its output is what it wrote over what it was given, and it says no more signals than octets
 module _ (t e o : List ℕ) where
@@ -235,12 +253,6 @@ none_left es t o s = ap (λ (fs : List (List ℕ)). singly fs t o) (no_frame es 
 pub no_room_left : {t₀ es o₀ l₀ t o l : List ℕ} {n at put count : ℕ} (r : Reached t₀ es o₀ l₀ t o l n at put count) → length o - put < 4240 → singly (frames (drop at es)) t (drop put o) ≡ []
 no_room_left {es = es} {t = t} {o = o} {at = at} {put = put} r h = no_room (frames (drop at es)) t (drop put o) (omega (arith, h, length-drop put o))
 
-pub broken_there : (rest : List ℕ) → frames rest ≡ [] → 1 ≤ length rest → 2 ≡ broken_at rest
-broken_there rest f h = rw (ne_eqb (length rest) 0 (λ e. omega (arith, h, e)), by (sound rest) refl) where
-  by : (b : Bool) → sound rest ≡ b → b ≡ false
-  by true s = absurd (omega (arith, ap length (sym f ∙ a_frame rest s)))
-  by false s = refl
-
 pub sound_there : (rest : List ℕ) → sound rest ≡ true → 0 ≡ broken_at rest
 sound_there rest h = rw (h, or-true (eqb (length rest) 0))
 
@@ -255,31 +267,23 @@ past_over s d n h =
     ∙ drop-drop j (length s) d
     ∙ ap (λ (k : ℕ). drop k d) (sym e)
 
--- the same by other names for three numbers of the answer
-pub retold : {t₀ es o₀ l₀ t o : List ℕ} (l : List ℕ) (n m at put count : ℕ) {a b c x y z : ℕ} → x ≡ a → y ≡ b → z ≡ c →
-    Reached t₀ es o₀ l₀ t o (set l n a) m at (put + b) (count + c) → Reached t₀ es o₀ l₀ t o (set l n x) m at (put + y) (count + z)
-retold l n m at put count p q r h = rw (p, q, r) h
-
 -- a table of the same length is as good
 pub as_good : (t₀ t : List ℕ) → length t ≡ length t₀ → bad_table t₀ ≡ false → bad_table t ≡ false
 as_good t₀ t e h = rw e h
 
--- ONE MORE CALL: of the frame at `at`, which ends at `end`
-module _ {t₀ es o₀ l₀ t o l : List ℕ} {n at put count : ℕ} (r : Reached t₀ es o₀ l₀ t o l n at put count) (here : sound (drop at es) ≡ true) where
+-- ONE MORE CALL: of the frame at `at`, of so many octets
+module _ {t₀ es o₀ l₀ t o l : List ℕ} {n at put count size : ℕ} (r : Reached t₀ es o₀ l₀ t o l n at put count) (next : Next es at size) where
   pub more : n < length (frames es)
-  more = omega (arith, r.others, ap length (a_frame (drop at es) here))
+  more = omega (arith, r.others, next.fewer)
 
-  pub within : at + (12 + length_at (drop at es)) ≤ length es
-  within = omega (arith, (well_formed_lem (drop at es) here).within, length-drop at es, r.at_in)
-
-  module _ (end : ℕ) (end_is : end ≡ at + (12 + length_at (drop at es))) (room : 4240 ≤ length o - put) (places : length (frames es) ≤ length l₀) (a : Answer) (t' y : List ℕ)
-      (q : answering a t' y ≡ step_call t (take (end - at) (drop at es)) (take (length o - put) (drop put o))) where
+  module _ (room : 4240 ≤ length o - put) (places : length (frames es) ≤ length l₀) (a : Answer) (t' y : List ℕ)
+      (q : answering a t' y ≡ step_call t (take (at + size - at) (drop at es)) (take (length o - put) (drop put o))) where
     abbrev pub C : Outcome
     C = step_call t (front (drop at es)) (drop put o)
 
     same : answering a t' y ≡ C
     same =
-        let k : end - at ≡ 12 + length_at (drop at es) = omega (arith, end_is) in
+        let k : at + size - at ≡ 12 + length_at (drop at es) = omega (arith, next.size) in
         q ∙ (λ i. step_call t (take (k i) (drop at es)) (rest_is o put i))
 
     answer_is : a ≡ C.answer
@@ -331,17 +335,17 @@ module _ {t₀ es o₀ l₀ t o l : List ℕ} {n at put count : ℕ} (r : Reache
         ∙ ap (drop (put + k)) (sym out_is')
 
     -- the frames that are left
-    frames_are : frames (drop at es) ≡ front (drop at es) ∷ frames (drop end es)
-    frames_are = a_frame (drop at es) here ∙ ap (λ (fs : List ℕ). front (drop at es) ∷ frames fs) (behind_from es at (12 + length_at (drop at es)) refl ∙ ap (λ (m : ℕ). drop m es) (sym end_is))
+    frames_are : frames (drop at es) ≡ front (drop at es) ∷ frames (drop (at + size) es)
+    frames_are = a_frame (drop at es) next.here ∙ ap (λ (fs : List ℕ). front (drop at es) ∷ frames fs) (behind_from es at size next.size)
 
-    whole' : singly (frames es) t₀ o₀ ≡ done' ++ singly (frames (drop end es)) t' (drop (put + a.octets) O')
+    whole' : singly (frames es) t₀ o₀ ≡ done' ++ singly (frames (drop (at + size) es)) t' (drop (put + a.octets) O')
     whole' =
         let lr : 4240 ≤ length (drop put o) = omega (arith, length-drop put o, room) in
         r.whole
         ∙ ap (λ (fs : List (List ℕ)). r.done ++ singly fs t (drop put o)) frames_are
-        ∙ ap (λ (s : List Single). r.done ++ s) (one_more (frames (drop end es)) t (front (drop at es)) (drop put o) lr)
-        ∙ (λ i. r.done ++ (S ∷ singly (frames (drop end es)) (sym same i).table (left_is i)))
-        ∙ sym (append_assoc r.done (S ∷ []) (singly (frames (drop end es)) t' (drop (put + a.octets) O')))
+        ∙ ap (λ (s : List Single). r.done ++ s) (one_more (frames (drop (at + size) es)) t (front (drop at es)) (drop put o) lr)
+        ∙ (λ i. r.done ++ (S ∷ singly (frames (drop (at + size) es)) (sym same i).table (left_is i)))
+        ∙ sym (append_assoc r.done (S ∷ []) (singly (frames (drop (at + size) es)) t' (drop (put + a.octets) O')))
 
     list_is' : set l n a.refusal ≡ over (numbers_of done') l₀
     list_is' =
@@ -352,20 +356,20 @@ module _ {t₀ es o₀ l₀ t o l : List ℕ} {n at put count : ℕ} (r : Reache
         ∙ behind ns (C.answer.refusal ∷ []) l₀
         ∙ ap (λ (w : List ℕ). over w l₀) (sym (numbers_and r.done (S ∷ [])))
 
-    pub turn : Reached t₀ es o₀ l₀ t' O' (set l n a.refusal) (n + 1) end (put + a.octets) (count + a.signals)
+    pub turn : Reached t₀ es o₀ l₀ t' O' (set l n a.refusal) (n + 1) (at + size) (put + a.octets) (count + a.signals)
     turn =
         record {
           done = done';
           whole = whole';
           others = omega (arith, r.others, ap length frames_are);
           taken_is = omega (arith, r.taken_is, length-append r.done (S ∷ []));
-          at_is = end_is ∙ omega (arith, r.at_is, front_long (drop at es) here, ap length (events_and r.done (S ∷ [])), length-append (events_of r.done) (front (drop at es) ++ []), length-append (front (drop at es)) []);
+          at_is = omega (arith, next.size, r.at_is, front_long (drop at es) next.here, ap length (events_and r.done (S ∷ [])), length-append (events_of r.done) (front (drop at es) ++ []), length-append (front (drop at es)) []);
           put_is = put_is';
           count_is = omega (arith, r.count_is, ap (λ (b : Answer). b.signals) answer_is, signals_and r.done (S ∷ []));
           table_is = ap (λ (z : Outcome). z.table) same ∙ sym (table_and t₀ r.done (S ∷ []));
           out_is = out_is';
           list_is = list_is';
-          at_in = omega (arith, end_is, within);
+          at_in = next.inside;
           put_in = fits;
           few = few';
           same_t = ap (λ (z : Outcome). length z.table) same ∙ (same_lengths t (front (drop at es)) (drop put o)).0 ∙ r.same_t;

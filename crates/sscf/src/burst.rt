@@ -7,7 +7,7 @@ ghost use Rattle.sscf.specs.Burst.{singly, bursting, broken_at, came};
 
 use crate::BurstAnswer;
 use event::{HEAD, front};
-use step::{ROOM, Refusal, octets_in, refusal_in, signals_in, step};
+use step::{ROOM, Refusal, step};
 
 // How many sound frames stand before the first broken one.
 fn frames(events: &[u8]) -> usize
@@ -15,14 +15,11 @@ fn frames(events: &[u8]) -> usize
 {
     let mut at = 0;
     let mut n = 0;
-    loop {
-        let size = front(&events[at..]);
-        if size == 0 {
-            return n;
-        }
+    while let Some(size) = front(&events[at..]) {
         at += size;
         n += 1;
     }
+    n
 }
 
 // Whether a list is too short for them. One with a place for every twelve octets never is, and then they are not counted: a walk from frame to frame waits at each for
@@ -41,15 +38,16 @@ pub fn short_list(places: usize, events: &[u8]) -> bool
 fn broken(rest: &[u8]) -> u32
     ensures { result ≡ broken_at rest.now }
 {
-    let size = front(rest);
-    if (rest.len() != 0) & (size == 0) {
+    let next = front(rest);
+    if !rest.is_empty() & next.is_none() {
         Refusal::Frame.number()
     } else {
         0
     }
 }
 
-// Makes the calls of the sound frames, as long as there is room, and lists their refusals.
+// Makes the calls of the sound frames, as long as there is room, and lists their refusals. No `for` over the frames: the output is gone
+// through at a pace of its own, and the room in it is asked before each frame.
 pub fn run(table: &mut [u8], events: &[u8], out: &mut [u8], list: &mut [u32]) -> BurstAnswer
     requires { (bad_table table.old ≡ false) × (length (frames events.now) ≤ length list.old) }
     ensures { bursting result table.new out.new list.new ≡ came (singly (frames events.now) table.old out.old) table.old events.now out.old list.old }
@@ -58,24 +56,22 @@ pub fn run(table: &mut [u8], events: &[u8], out: &mut [u8], list: &mut [u32]) ->
     let mut at = 0;
     let mut put = 0;
     let mut count = 0;
-    while ROOM <= out.len() - put {
-        let size = front(&events[at..]);
-        if size == 0 {
-            break;
-        }
+    while ROOM <= out.len() - put
+        && let Some(size) = front(&events[at..])
+    {
         let end = at + size;
         let told = step(table, &events[at..end], &mut out[put..]);
-        list[taken] = refusal_in(told);
-        put += octets_in(told) as usize;
-        count += signals_in(told) as usize;
+        list[taken] = told.refusal();
+        put += told.octets() as usize;
+        count += told.signals() as usize;
         taken += 1;
         at = end;
     }
     BurstAnswer {
         refusal: 0,
         broken: broken(&events[at..]),
-        taken: taken,
-        at: at,
+        taken,
+        at,
         octets: put,
         signals: count,
     }

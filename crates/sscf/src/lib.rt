@@ -6,7 +6,7 @@ mod burst;
 ghost use Rattle.std.specs.Prelude.{◌≡◌, ◌%◌, length};
 ghost use Rattle.record.specs.LinkRecord.{record_octets};
 ghost use Rattle.step.specs.Checks.{number, place};
-ghost use Rattle.step.specs.Step.{records, answered, answering, step_call};
+ghost use Rattle.step.specs.Step.{records, answering, step_call};
 ghost use Rattle.sscf.specs.Burst.{burst_answered, bursting, burst_call};
 ghost use Rattle.sscf.specs.Fresh.{copies, fresh_answered, making, fresh_call};
 ghost use Rattle.sscf.specs.Version.{version};
@@ -16,32 +16,15 @@ use octet::put_at;
 use record::RECORD;
 use step::{Answer, Refusal, bad_table};
 
-fn refused(r: Refusal) -> Answer
-    ensures { result ≡ answered (number r) 0 0 (place r) }
-{
-    Answer {
-        refusal: r.number(),
-        octets: 0,
-        signals: 0,
-        place: r.place(),
-    }
-}
-
 // One event for one link.
 #[tactic(auto, unfolding(step::specs::Step::step_call))]
 pub fn sscf_step(table: &mut [u8], event: &[u8], out: &mut [u8]) -> Answer
     ensures { answering result table.new out.new ≡ step_call table.old event.now out.old }
 {
     if bad_table(&table[..]) {
-        return refused(Refusal::Table);
+        return Refusal::Table.into();
     }
-    let told = step::step(table, event, out);
-    Answer {
-        refusal: step::refusal_in(told),
-        octets: step::octets_in(told),
-        signals: step::signals_in(told),
-        place: step::place_in(told),
-    }
+    step::step(table, event, out).into()
 }
 
 // What a burst answers: 0 or the refusal; 2 if a broken frame ended it, else 0; the events that got a number, the octets of the events up to where it stopped, the
@@ -57,16 +40,18 @@ pub struct BurstAnswer {
     pub signals: usize,
 }
 
-fn burst_refused(r: Refusal) -> BurstAnswer
-    ensures { result ≡ burst_answered (number r) 0 0 0 0 0 }
-{
-    BurstAnswer {
-        refusal: r.number(),
-        broken: 0,
-        taken: 0,
-        at: 0,
-        octets: 0,
-        signals: 0,
+impl From<Refusal> for BurstAnswer {
+    ghost from_gives = { λ r a. a ≡ burst_answered (number r) 0 0 0 0 0 };
+
+    fn from(r: Refusal) -> BurstAnswer {
+        BurstAnswer {
+            refusal: r.number(),
+            broken: 0,
+            taken: 0,
+            at: 0,
+            octets: 0,
+            signals: 0,
+        }
     }
 }
 
@@ -81,17 +66,18 @@ pub fn sscf_burst(
     ensures { bursting result table.new out.new refusals.new ≡ burst_call table.old events.now out.old refusals.old }
 {
     if bad_table(&table[..]) {
-        return burst_refused(Refusal::Table);
+        return Refusal::Table.into();
     }
     if burst::short_list(refusals.len(), events) {
-        return burst_refused(Refusal::List);
+        return Refusal::List.into();
     }
     burst::run(table, events, out, refusals)
 }
 
 // Writes a record over all of a table, as often as it has place, from its end on: so the compiler leaves the loop as it is (D92).
-fn fill(table: &mut [u8], r: &[u8])
-    requires { (length table.old % record_octets ≡ 0) × (length r.now ≡ record_octets) }
+// A `for` over `chunks_exact_mut` was tried: 81 octets more of flash (limit: 4,150 in all, tests/size).
+fn fill(table: &mut [u8], r: &[u8; RECORD])
+    requires { length table.old % record_octets ≡ 0 }
     ensures { table.new ≡ copies (records table.old) r.now }
 {
     let mut at = table.len();
@@ -109,12 +95,14 @@ pub struct FreshAnswer {
     pub place: u32,
 }
 
-fn fresh_refused(r: Refusal) -> FreshAnswer
-    ensures { result ≡ fresh_answered (number r) (place r) }
-{
-    FreshAnswer {
-        refusal: r.number(),
-        place: r.place(),
+impl From<Refusal> for FreshAnswer {
+    ghost from_gives = { λ r a. a ≡ fresh_answered (number r) (place r) };
+
+    fn from(r: Refusal) -> FreshAnswer {
+        FreshAnswer {
+            refusal: r.number(),
+            place: r.place(),
+        }
     }
 }
 
@@ -127,10 +115,10 @@ pub fn sscf_fresh(table: &mut [u8], n1: u16) -> FreshAnswer
     ensures { making result table.new ≡ fresh_call table.old n1 }
 {
     if bad_table(&table[..]) {
-        return fresh_refused(Refusal::Table);
+        return Refusal::Table.into();
     }
     if n1 == 0 {
-        return fresh_refused(Refusal::Field(Fault::OutOfRange(N1)));
+        return Refusal::Field(Fault::OutOfRange(N1)).into();
     }
     let packed = record::pack(link::fresh(n1));
     fill(table, &packed);

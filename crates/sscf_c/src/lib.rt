@@ -1,4 +1,5 @@
 // The calls of `sscf` for C hosts, each with its clauses: a fresh table, one event for one link of a table, a burst of events, and which version this is.
+// Twins of those of `sscf`, since C needs an object in which each stands under its own name.
 #![tactic(auto)]
 
 ghost use Rattle.std.specs.Prelude.{◌≡◌};

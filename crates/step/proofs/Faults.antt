@@ -250,10 +250,7 @@ here : (m : Bool) (w : Verdict Fault) (v : Verdict ℕ) (x : Verdict Refusal) �
 here true passed v x p q h = absurd (true≢false (p refl))
 here false passed v x p q h = h
 here true (refused f) v x p q h = four f
-here false (refused f) v x p q h = absurd (subst Other (q refl) tt) where
-  Other : Verdict Fault → Type 0
-  Other passed = ⊥
-  Other (refused g) = Unit {0}
+here false (refused f) v x p q h = let e = q refl in absurd (cc)
 
 pub same_refusals : SameRefusals
 same_refusals t e o =

@@ -1,6 +1,6 @@
 pub mod OneAnswer
 pub mod Places
 pub mod Taken
-pub mod Told
+pub mod Number
 pub mod Untouched
 pub mod Faults

@@ -7,14 +7,20 @@ use Rattle.step.proofs.bad_table.Kinds as bad-table-kinds
 use Rattle.step.proofs.bad_table.Reads as bad-table
 use Rattle.step.proofs.step.Kinds as step-kinds
 use Rattle.step.proofs.step.Reads as step
-use Rattle.step.proofs.refusal_in.Kinds as refusal-kinds
-use Rattle.step.proofs.refusal_in.Reads as refusal
-use Rattle.step.proofs.octets_in.Kinds as octets-kinds
-use Rattle.step.proofs.octets_in.Reads as octets
-use Rattle.step.proofs.signals_in.Kinds as signals-kinds
-use Rattle.step.proofs.signals_in.Reads as signals
-use Rattle.step.proofs.place_in.Kinds as place-in-kinds
-use Rattle.step.proofs.place_in.Reads as place-in
+use Rattle.step.proofs.Told.refusal.Kinds as refusal-kinds
+use Rattle.step.proofs.Told.refusal.Reads as refusal
+use Rattle.step.proofs.Told.octets.Kinds as octets-kinds
+use Rattle.step.proofs.Told.octets.Reads as octets
+use Rattle.step.proofs.Told.signals.Kinds as signals-kinds
+use Rattle.step.proofs.Told.signals.Reads as signals
+use Rattle.step.proofs.Told.place.Kinds as place-in-kinds
+use Rattle.step.proofs.Told.place.Reads as place-in
+use Rattle.step.proofs.RefusalFromUnread.from.Kinds as unread-kinds
+use Rattle.step.proofs.RefusalFromUnread.from.Reads as unread
+use Rattle.step.proofs.AnswerFromRefusal.from.Kinds as refused-kinds
+use Rattle.step.proofs.AnswerFromRefusal.from.Reads as refused
+use Rattle.step.proofs.AnswerFromTold.from.Kinds as told-kinds
+use Rattle.step.proofs.AnswerFromTold.from.Reads as told
 use Rattle.step.proofs.Refusal.number.Kinds as number-kinds
 use Rattle.step.proofs.Refusal.number.Reads as number
 use Rattle.step.proofs.Refusal.place.Kinds as place-kinds
@@ -29,8 +35,18 @@ number_one κs arguments x y e f = equal
 pub place_one : OneAnswer place-kinds.ps place-kinds.r place.Post
 place_one κs arguments x y e f = equal
 
+-- of the conversions
+pub unread_one : OneAnswer unread-kinds.ps unread-kinds.r unread.Post
+unread_one κs arguments x y e f = equal
+
+pub refused_one : OneAnswer refused-kinds.ps refused-kinds.r refused.Post
+refused_one κs arguments x y e f = equal
+
+pub told_one : OneAnswer told-kinds.ps told-kinds.r told.Post
+told_one κs arguments x y e f = equal
+
 -- of the number in which a step hands on its answer, what it tells
-pub step_one : OneReading step-kinds.ps step-kinds.r Outcome (λ κs arguments x e. answering (told_by x) e.0.now e.1.1.0.now) step.Post
+pub step_one : OneReading step-kinds.ps step-kinds.r Outcome (λ κs arguments x e. answering (told_by x.number) e.0.now e.1.1.0.now) step.Post
 step_one κs arguments x y e f = equal
 
 pub refusal_one : OneAnswer refusal-kinds.ps refusal-kinds.r refusal.Post

@@ -9,13 +9,12 @@ ghost use Rattle.step.specs.Step.{bad_table, records, record_at, idle, checks};
 ghost use Rattle.step.specs.Plan.{Planned};
 
 use crate::{ROOM, Refusal};
-use event::Reading;
-use link::{Link, Reply};
-use record::{RECORD, Slot};
+use link::{Link, Said};
+use record::RECORD;
 use table6::events;
 
 // The record of link k.
-fn slot_at(t: &[u8], k: usize) -> Slot
+fn slot_at(t: &[u8], k: usize) -> Option<Link>
     requires { k < records t.now }
     ensures { found result ≡ slot_of (record_at t.now k) }
 {
@@ -33,72 +32,44 @@ fn idle(l: Link, code: u8) -> bool
         || ((code == events::T3_EXPIRED) && !l.t3)
 }
 
-// What the checks come to: a refusal, or the link, its record after the event, the words of its signals and how many they are, and what is noted of the step.
+// What a step that no check refuses comes to: the link, its record after the event, and what is said of it.
 #[derive(Clone, Copy)]
-pub enum Plan {
-    Refused(Refusal),
-    Go {
-        link: u16,
-        next: Link,
-        words: u64,
-        count: u8,
-        noted: u8,
-        sent: u8,
-    },
+pub struct Plan {
+    pub link: u16,
+    pub next: Link,
+    pub said: Said,
 }
 
 // Checks 5 to 9, of an event that fits. It is read where it is used, behind the record: so it is looked at once, and little is held meanwhile.
-fn link_plan(t: &[u8], e: &[u8], room: usize) -> Plan
+fn link_plan(t: &[u8], e: &[u8], room: usize) -> Result<Plan, Refusal>
     requires { (head_octets ≤ length e.now) × (reading_of e.now ≡ passed) × (bad_table t.now ≡ false) }
     ensures { Planned (drop 9 (checks t.now e.now room)) t.now e.now result }
 {
     let k = event::link(e);
     if t.len() <= RECORD * k as usize {
-        return Plan::Refused(Refusal::Link);
+        return Err(Refusal::Link);
     }
-    match slot_at(t, k as usize) {
-        Slot::IllFormed => Plan::Refused(Refusal::Record),
-        Slot::Holds(l) => {
-            if idle(l, e[4]) {
-                return Plan::Refused(Refusal::Timer);
-            }
-            let turn = link::step_plain(l, event::event(e));
-            let next = turn.link;
-            let reply = turn.reply;
-            match reply {
-                Reply::Illegal => Plan::Refused(Refusal::Cell),
-                Reply::Legal {
-                    words,
-                    count,
-                    noted,
-                    sent,
-                } => {
-                    if room < ROOM {
-                        return Plan::Refused(Refusal::Room);
-                    }
-                    Plan::Go {
-                        link: k,
-                        next: next,
-                        words: words,
-                        count: count,
-                        noted: noted,
-                        sent: sent,
-                    }
-                }
-            }
-        }
+    let l = slot_at(t, k as usize).ok_or(Refusal::Record)?;
+    if idle(l, e[4]) {
+        return Err(Refusal::Timer);
     }
+    let turn = link::step_plain(l, event::event(e));
+    let said = turn.said.ok_or(Refusal::Cell)?;
+    if room < ROOM {
+        return Err(Refusal::Room);
+    }
+    Ok(Plan {
+        link: k,
+        next: turn.link,
+        said,
+    })
 }
 
 // All checks but the first, of a table that has passed it.
-pub fn planned(t: &[u8], e: &[u8], room: usize) -> Plan
+pub fn planned(t: &[u8], e: &[u8], room: usize) -> Result<Plan, Refusal>
     requires { bad_table t.now ≡ false }
     ensures { Planned (drop 1 (checks t.now e.now room)) t.now e.now result }
 {
-    match event::read_event(e) {
-        Reading::BadFrame => Plan::Refused(Refusal::Frame),
-        Reading::UnknownCode => Plan::Refused(Refusal::Code),
-        Reading::Misfit(fault) => Plan::Refused(Refusal::Field(fault)),
-        Reading::Fits => link_plan(t, e, room),
-    }
+    event::read_event(e)?;
+    link_plan(t, e, room)
 }

@@ -6,9 +6,10 @@ use Prim.Native.Nat.{ℕ, ◌<◌, ◌≤◌}
 use lib.Dec.{eqb, ltb}
 use lib.ListN.{get_or}
 use borrow.Author.Tests.{eqb-true, ltb-true, ltb-false}
+use Rattle.std.specs.Prelude.{Some, None}
 use Rattle.table6.specs.declared.State.{State}
 use Rattle.table6.specs.declared.Facts.{Facts}
-use Rattle.table6.specs.declared.Met.{Met}
+use Rattle.table6.specs.declared.Does.{Does}
 use Rattle.table6.specs.declared.effects.Alternative.{Alternative}
 use Rattle.table6.specs.Cell.{Cond, LPO=0, LPO=0&INS=0, LPO=0&INS=1, UU=EM-or-NM, Source=User, BSNT-available, MU>4, holds}
 use Rattle.table6.specs.Cell.{Act, tell, alter, Cell, Illegal, to, ◌⨟◌, ◌⨾◌, IF◌THEN◌ELSE◌, Row, cell, Choice, illegal, does, after, chosen}
@@ -63,24 +64,24 @@ taken (when q w v) f = cond (test q f) (taken w f) (taken v f)
 -- THE STORED SIDE
 
 abbrev asked_way : ℕ → State → Ask → Way
-asked_way row s (gives c up) = only (met_as row s (done_by (c, up)))
+asked_way row s (gives c up) = only (met_as row s (Some (done_by (c, up))))
 asked_way row s (asks q y n) = when (number q) (asked_way row s y) (asked_way row s n)
 
 abbrev coded_way : ℕ → State → ℕ → Way
 coded_way row s c = cond (eqb c 0) (only refused) (asked_way row s (ask_at c))
 
-by_answer : (b : Bool) (row : ℕ) (s : State) (y n : Alternative) (w v : Summed) → w ≡ met_as row s (done_by y) → v ≡ met_as row s (done_by n) →
-    cond b w v ≡ met_as row s (done_by (cond b y n))
+by_answer : (b : Bool) (row : ℕ) (s : State) (y n : Alternative) (w v : Summed) → w ≡ met_as row s (Some (done_by y)) → v ≡ met_as row s (Some (done_by n)) →
+    cond b w v ≡ met_as row s (Some (done_by (cond b y n)))
 by_answer true row s y n w v p q = p
 by_answer false row s y n w v p q = q
 
-stored_way : (row : ℕ) (s : State) (a : Ask) (f : Facts) → taken (asked_way row s a) f ≡ met_as row s (done_by (picked f a))
+stored_way : (row : ℕ) (s : State) (a : Ask) (f : Facts) → taken (asked_way row s a) f ≡ met_as row s (Some (done_by (picked f a)))
 stored_way row s (gives c up) f = refl
 stored_way row s (asks q y n) f =
     rw (numbered q f) (by_answer (holds q f) row s (picked f y) (picked f n) _ _ (stored_way row s y f) (stored_way row s n f))
 
 by_code : (b : Bool) (row : ℕ) (s : State) (a : Ask) (f : Facts) →
-    taken (cond b (only refused) (asked_way row s a)) f ≡ met_as row s (cond b Met.Illegal (done_by (picked f a)))
+    taken (cond b (only refused) (asked_way row s a)) f ≡ met_as row s (cond b None (Some (done_by (picked f a))))
 by_code true row s a f = refl
 by_code false row s a f = stored_way row s a f
 
@@ -242,7 +243,7 @@ gone b s (when q w v) f = by (test q f) (gone b s w f) (gone b s v f) where
 
 -- what the code does there, by whether the peer's field is EM or NM
 abbrev on_congested : Bool → Bool → ℕ → State → ℕ → Way
-on_congested b uu row s c = cond (b && (uu && leading c)) (only (met_as row s (gone_on c))) (given (number UU=EM-or-NM) uu (coded_way row s c))
+on_congested b uu row s c = cond (b && (uu && leading c)) (only (met_as row s (Some (gone_on c)))) (given (number UU=EM-or-NM) uu (coded_way row s c))
 
 all_going : (b uu : Bool) →
     from (λ row. eight (λ s. on_congested b uu row s (code_at row s))) 0 35 ≡ from (λ row. eight (λ s. going b s (given (number UU=EM-or-NM) uu (coded_way row s (code_at row s))))) 0 35
@@ -257,17 +258,21 @@ leads_nowhere true true = refl
 leads_nowhere true false = refl
 leads_nowhere false u = refl
 
+some_either : (b : Bool) (x y : Does) → Some (cond b x y) ≡ cond b (Some x) (Some y)
+some_either true x y = refl
+some_either false x y = refl
+
 -- a cell that is Illegal leads nowhere: so congestion may be asked first
-congestion_first : (c : ℕ) (f : Facts) (b : Bool) → met_of c f b ≡ cond (b && (f.uu && leading c)) (gone_on c) (plainly c f)
+congestion_first : (c : ℕ) (f : Facts) (b : Bool) → met_of c f b ≡ cond (b && (f.uu && leading c)) (Some (gone_on c)) (plainly c f)
 unfolding met_of
 congestion_first c f b = by (eqb c 0) refl where
   by : (z : Bool) → eqb c 0 ≡ z →
-      cond z Met.Illegal (cond (b && (f.uu && leading c)) (gone_on c) (done_by (picked f (ask_at c)))) ≡ cond (b && (f.uu && leading c)) (gone_on c) (cond z Met.Illegal (done_by (picked f (ask_at c))))
+      cond z None (Some (cond (b && (f.uu && leading c)) (gone_on c) (done_by (picked f (ask_at c))))) ≡ cond (b && (f.uu && leading c)) (Some (gone_on c)) (cond z None (Some (done_by (picked f (ask_at c)))))
   by true e = rw (eqb-true c 0 e, leads_nowhere b f.uu) refl
-  by false e = refl
+  by false e = some_either (b && (f.uu && leading c)) (gone_on c) (done_by (picked f (ask_at c)))
 
 by_congestion : (b z : Bool) (row : ℕ) (s : State) (c : ℕ) (f : Facts) → b && (f.uu && leading c) ≡ z →
-    taken (cond z (only (met_as row s (gone_on c))) (given (number UU=EM-or-NM) f.uu (coded_way row s c))) f ≡ met_as row s (cond z (gone_on c) (plainly c f))
+    taken (cond z (only (met_as row s (Some (gone_on c)))) (given (number UU=EM-or-NM) f.uu (coded_way row s c))) f ≡ met_as row s (cond z (Some (gone_on c)) (plainly c f))
 by_congestion b true row s c f e = refl
 by_congestion b false row s c f e = given_way (number UU=EM-or-NM) f.uu (coded_way row s c) f refl ∙ coded_met row s c f
 

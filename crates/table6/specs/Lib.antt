@@ -7,5 +7,6 @@ pub mod Table6
 pub mod Order
 pub mod Summary
 pub mod Rows
+pub mod States
 pub mod Stored
 pub mod Every

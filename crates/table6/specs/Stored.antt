@@ -1,13 +1,13 @@
 -- What the numbers that the code stores stand for. Nothing here has to be believed: the code is proved to hold these numbers, and one computed test
 -- shows that they decode to Table 6 (proofs/Stored.antt).
-use Rattle.std.specs.Prelude.{ℕ, zero, suc, ◌+◌, ◌-◌, ◌*◌, ◌^◌, ◌/◌, ◌%◌, ◌≡◌, Bool, true, false, cond, not, ◌&&◌, List, [], ◌∷◌, ◌++◌, map, eqb, leb, ltb, get_or, length}
+use Rattle.std.specs.Prelude.{ℕ, zero, suc, ◌+◌, ◌-◌, ◌*◌, ◌^◌, ◌/◌, ◌%◌, ◌≡◌, Bool, true, false, cond, not, ◌&&◌, List, [], ◌∷◌, ◌++◌, map, eqb, leb, ltb, get_or, length, Option, Some, None}
 use Rattle.std.specs.Int.Bits.{bit_and}
 use Rattle.unit.specs.declared.Mps.{Mps}
 use Rattle.unit.specs.declared.Ups.{Ups}
 use Rattle.unit.specs.Proving.{ups_code}
 use Rattle.table6.specs.declared.State.{State}
 use Rattle.table6.specs.declared.Facts.{Facts}
-use Rattle.table6.specs.declared.Met.{Met}
+use Rattle.table6.specs.declared.Does.{Does}
 use Rattle.table6.specs.declared.effects.Alternative.{Alternative}
 use Rattle.table6.specs.Words.{–, OOS, PO, INS, NM, ANS, MI, PE, PNS, LR, RR, SR, ALN, CC, CD, SREC, UDR, PDUT, SSCOP-UU, Parameter-Data, 2/4/2, is-2/10/3}
 use Rattle.table6.specs.Cell.{T1, T2, T3, Told, Act, tell, Cond, LPO=0, LPO=0&INS=0, LPO=0&INS=1, UU=EM-or-NM, Source=User, BSNT-available, MU>4, holds, cell, chosen}
@@ -409,24 +409,25 @@ unfoldable pub ask_at : ℕ → Ask
 ask_at c = cond (ltb c 44) (gives c false) (asking c)
 
 -- a number with its own words
-abbrev pub does : ℕ → Bool → Met
-does n up = Met.Does n (n / 2 ^ 24) up
+abbrev pub does : ℕ → Bool → Does
+does n up = record { number = n; words = n / 2 ^ 24; up = up }
 
-abbrev pub done_by : Alternative → Met
+abbrev pub done_by : Alternative → Does
 done_by p = does (number_at (p.0 % 64)) p.1
 
-abbrev pub plainly : ℕ → Facts → Met
-plainly c f = cond (eqb c 0) Met.Illegal (done_by (picked f (ask_at c)))
+abbrev pub plainly : ℕ → Facts → Option Does
+plainly c f = cond (eqb c 0) None (Some (done_by (picked f (ask_at c))))
 
 -- the codes that may lead to 2/10/3, and what they do where the link is congested
 abbrev pub leading : ℕ → Bool
 leading c = leb 56 c && ltb c 60
 
-abbrev pub gone_on : ℕ → Met
-gone_on c = cond (ltb c 58) (Met.Does confirmed confirmed_words true) (Met.Does indicated indicated_words true)
+abbrev pub gone_on : ℕ → Does
+gone_on c =
+    cond (ltb c 58) (record { number = confirmed; words = confirmed_words; up = true }) (record { number = indicated; words = indicated_words; up = true })
 
-unfoldable pub met_of : ℕ → Facts → Bool → Met
-met_of c f congested = cond (eqb c 0) Met.Illegal (cond (congested && (f.uu && leading c)) (gone_on c) (done_by (picked f (ask_at c))))
+unfoldable pub met_of : ℕ → Facts → Bool → Option Does
+met_of c f congested = cond (eqb c 0) None (Some (cond (congested && (f.uu && leading c)) (gone_on c) (done_by (picked f (ask_at c)))))
 
 -- WHAT THE CODE ANSWERS
 
@@ -448,10 +449,10 @@ goes_on congested state (summed s says next) =
     cond (not (is-2/10/3 state) && (is-2/10/3 next && over s.congested congested))
     (summed (summary gives_up s) (says ++ signals gives_up) 2/4/2) (summed s says next)
 
-abbrev pub met_as : ℕ → State → Met → Summed
-met_as row state Met.Illegal = refused
-met_as row state (Met.Does n ws up) = summed (changed (arrival row) up n) (said (word_count n) ws) (over (state_op n) state)
+abbrev pub met_as : ℕ → State → Option Does → Summed
+met_as row state None = refused
+met_as row state (Some d) = summed (changed (arrival row) d.up d.number) (said (word_count d.number) d.words) (over (state_op d.number) state)
 
-abbrev pub Sound : Met → Type 0
-Sound Met.Illegal = Unit {0}
-Sound (Met.Does n ws up) = SoundNumber n
+abbrev pub Sound : Option Does → Type 0
+Sound None = Unit {0}
+Sound (Some d) = SoundNumber d.number

@@ -5,7 +5,8 @@ ghost use Rattle.table6.specs.Stored.{code_at, place, row_of, state_at};
 use crate::{State, rows};
 
 // Codes of what a cell does: the event, and document 01's code of the state where it does one thing here and another there. What an event does in
-// whatever state it is accepted is no part of it.
+// whatever state it is accepted is no part of it. Numbers and no enum: document 01 names the form, a const table of cell codes, and the alternatives of a condition are
+// found by adding to a code.
 pub const ILLEG: u8 = 0; // Illegal
 
 pub const MESSG: u8 = 1; // MESSAGE_FOR_TRANSMISSION
@@ -177,32 +178,14 @@ const TABLE_6: [[u8; 8]; 35] = [
 pub fn column(s: State) -> usize
     ensures { result ≡ place s }
 {
-    match s {
-        State::S111 => 0,
-        State::S141 => 1,
-        State::S212 => 2,
-        State::S222 => 3,
-        State::S242 => 4,
-        State::S2103 => 5,
-        State::S2104 => 6,
-        State::S3105 => 7,
-    }
+    s as usize - 1
 }
 
 // The state of a column.
 pub fn state_at(column: u8) -> State
     ensures { result ≡ state_at column }
 {
-    match column % 8 {
-        0 => State::S111,
-        1 => State::S141,
-        2 => State::S212,
-        3 => State::S222,
-        4 => State::S242,
-        5 => State::S2103,
-        6 => State::S2104,
-        _ => State::S3105,
-    }
+    State::try_from(column % 8 + 1).unwrap_or(State::S3105)
 }
 
 // The only place that reads the table. It is read at constant indices, so that it costs nothing: the compiler keeps of it the row of each arm. At an index

@@ -1,4 +1,5 @@
-// Document 01's codes of the events.
+// Document 01's codes of the events. Numbers and no enum: each is octet 4 of an event's record, which C writes.
+// `Event` of `link` is the enum; one of codes between the two would be made and matched at once.
 
 // From the user.
 pub const MESSAGE_FOR_TRANSMISSION: u8 = 1;

@@ -1,4 +1,5 @@
-// The rows of Table 6, numbered in the order of document 01's event codes: DATA has four, T3 two.
+// The rows of Table 6, numbered in the order of document 01's event codes: DATA has four, T3 two. Numbers and no enum: `cell` answers for every octet, a row that the
+// table doesn't have being Illegal.
 pub const MESSAGE_FOR_TRANSMISSION: u8 = 0;
 
 pub const EMERGENCY: u8 = 1;

@@ -1,4 +1,5 @@
-// Document 01's codes of the signals.
+// Document 01's codes of the signals. Numbers and no enum: each is octet 4 of a signal's record, which C reads.
+// They stand in arrays of octets alone, where an enum would be cast at each of some fifty places.
 
 // To the user.
 pub const RECEIVED_MESSAGE: u8 = 1;

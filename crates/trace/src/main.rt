@@ -2,14 +2,30 @@
 // comes from `sscf`, and what is written of it from `lines`.
 #![tactic(auto)]
 
-ghost use Rattle.std.specs.Prelude.{◌≡◌, ◌≤◌, length, IfOk};
+ghost use Rattle.std.specs.Prelude.{◌≤◌, length, IfOk, IfSome};
 
 use event::{HEAD, MESSAGE};
 use record::RECORD;
 use std::io;
 use std::io::{Print, Read};
+use step::ROOM;
 
-// Reads until buf is full or the input ends. Answers how many octets came.
+// The octets of the largest table, 256 records; of the longest event; and of the longest line, that of a signal.
+const TABLE: usize = 256 * RECORD;
+
+const EVENT: usize = HEAD + MESSAGE as usize;
+
+const TEXT: usize = 128 + 2 * ROOM;
+
+// An event, the signals that it gives, and a line of text.
+#[derive(Drop)]
+struct Buffers {
+    event: [u8; EVENT],
+    out: [u8; ROOM],
+    text: [u8; TEXT],
+}
+
+// Reads until buf is full or the input ends. Answers how many octets came. No `for`: each reading brings as many as there are.
 fn read_full(rt: &HostRuntime, buf: &mut [u8]) -> io::Result<usize>
     ensures { IfOk result (λ n. n ≤ length buf.new) }
 {
@@ -25,65 +41,54 @@ fn read_full(rt: &HostRuntime, buf: &mut [u8]) -> io::Result<usize>
     Ok(done)
 }
 
-// Reads the count of links and their records. Answers the octets of the table, 0 for a bad count or a short table.
-fn read_table(rt: &HostRuntime, table: &mut [u8]) -> io::Result<usize>
-    requires { length table.old ≡ 5120 }
-    ensures { IfOk result (λ n. n ≤ 5120) }
+// Reads the count of links and their records. Answers the octets of the table, none for a bad count or a short table.
+fn read_table(rt: &HostRuntime, table: &mut [u8; TABLE]) -> io::Result<Option<usize>>
+    ensures { IfOk result (λ o. IfSome o (λ n. n ≤ TABLE)) }
 {
     let mut count = [0u8; 2];
     if read_full(rt, &mut count)? < 2 {
-        return Ok(0);
+        return Ok(None);
     }
     let octets = octet::wide(count[0], count[1]) as usize * RECORD;
-    if 5120 < octets {
-        return Ok(0);
+    if octets == 0 || TABLE < octets {
+        return Ok(None);
     }
-    if read_full(rt, &mut table[..octets])? < octets {
-        return Ok(0);
-    }
-    Ok(octets)
+    let came = read_full(rt, &mut table[..octets])?;
+    Ok(if came < octets { None } else { Some(octets) })
 }
 
-// Reads an event, as many octets of message as it says and 4,096 at most. Answers how many octets came.
-fn read_event(rt: &HostRuntime, event: &mut [u8]) -> io::Result<usize>
-    requires { length event.old ≡ 4108 }
-    ensures { IfOk result (λ n. n ≤ 4108) }
+// Reads an event, as many octets of message as it says and 4,096 at most. Answers how many octets came, none at the end.
+fn read_event(rt: &HostRuntime, event: &mut [u8; EVENT]) -> io::Result<Option<usize>>
+    ensures { IfOk result (λ o. IfSome o (λ n. n ≤ EVENT)) }
 {
     let got = read_full(rt, &mut event[..HEAD])?;
-    if got != HEAD {
-        return Ok(got);
+    if got == 0 {
+        return Ok(None);
     }
     let len = octet::wide(event[10], event[11]);
-    if MESSAGE < len {
-        return Ok(HEAD);
+    if got < HEAD || MESSAGE < len {
+        return Ok(Some(got));
     }
     let end = HEAD + len as usize;
     let came = read_full(rt, &mut event[HEAD..end])?;
-    Ok(HEAD + came)
-}
-
-// Writes the first n octets of a text.
-fn print(rt: &HostRuntime, text: &[u8], n: usize) -> io::Result<()>
-    requires { n ≤ length text.now }
-{
-    rt.write_all(&text[..n])
+    Ok(Some(HEAD + came))
 }
 
 // Prints the signals that stand one behind the other in out.
-fn print_signals(rt: &HostRuntime, text: &mut [u8], out: &[u8], signals: u32) -> io::Result<()>
-    requires { (length text.old ≡ 8608) × (length out.now ≡ 4240) }
-{
-    let mut rest = out;
-    let mut i = 0;
-    while i < signals {
-        let n = lines::first_record(rest);
-        if n == 0 {
-            return Ok(());
-        }
+fn print_signals(
+    rt: &HostRuntime,
+    text: &mut [u8; TEXT],
+    out: &[u8; ROOM],
+    signals: u32,
+) -> io::Result<()> {
+    let mut rest = &out[..];
+    for _ in 0..signals {
+        let Some(n) = lines::first_record(rest) else {
+            break;
+        };
         let k = lines::signal_line(text, &rest[..n]);
-        print(rt, text, k)?;
+        rt.write_all(&text[..k])?;
         rest = &rest[n..];
-        i += 1;
     }
     Ok(())
 }
@@ -93,64 +98,61 @@ fn one_event(
     rt: &HostRuntime,
     ordinal: u64,
     table: &mut [u8],
-    event: &mut [u8],
-    out: &mut [u8],
-    text: &mut [u8],
-) -> io::Result<bool>
-    requires { (length event.old ≡ 4108) × (length out.old ≡ 4240) × (length text.old ≡ 8608) }
-{
-    let n = read_event(rt, event)?;
-    if n == 0 {
+    b: &mut Buffers,
+) -> io::Result<bool> {
+    let Some(n) = read_event(rt, &mut b.event)? else {
         return Ok(false);
-    }
-    let answer = sscf::sscf_step(table, &event[..n], out);
-    let k = lines::event_line(text, ordinal, event, answer.refusal, answer.signals);
-    print(rt, text, k)?;
-    print_signals(rt, text, out, answer.signals)?;
+    };
+    let answer = sscf::sscf_step(table, &b.event[..n], &mut b.out);
+    let k = lines::event_line(
+        &mut b.text,
+        ordinal,
+        &b.event,
+        answer.refusal,
+        answer.signals,
+    );
+    rt.write_all(&b.text[..k])?;
+    print_signals(rt, &mut b.text, &b.out, answer.signals)?;
     Ok(answer.refusal != lines::BAD_FRAME)
 }
 
 // Nothing says that the events end, and a proved loop must: it counts up to a number that no run reaches.
-fn all_events(rt: &HostRuntime, table: &mut [u8], text: &mut [u8]) -> io::Result<()>
-    requires { length text.old ≡ 8608 }
-{
-    let mut event = [0u8; 4108];
-    let mut out = [0u8; 4240];
-    let mut ordinal: u64 = 1;
-    while ordinal < u64::MAX && one_event(rt, ordinal, table, &mut event, &mut out, text)? {
-        ordinal += 1;
+fn all_events(rt: &HostRuntime, table: &mut [u8], b: &mut Buffers) -> io::Result<()> {
+    for ordinal in 1..u64::MAX {
+        if !one_event(rt, ordinal, table, b)? {
+            break;
+        }
     }
     Ok(())
 }
 
-fn print_links(rt: &HostRuntime, table: &[u8], text: &mut [u8]) -> io::Result<()>
-    requires { (length text.old ≡ 8608) × (length table.now ≤ 5120) }
+fn print_links(rt: &HostRuntime, table: &[u8], text: &mut [u8; TEXT]) -> io::Result<()>
+    requires { length table.now ≤ TABLE }
 {
-    let mut k = 0;
-    while k < table.len() / RECORD {
-        let start = RECORD * k;
-        let end = start + RECORD;
-        let n = lines::link_line(text, k as u16, &table[start..end]);
-        print(rt, text, n)?;
-        k += 1;
+    for (k, record) in table.chunks_exact(RECORD).enumerate() {
+        let n = lines::link_line(text, k as u16, record);
+        rt.write_all(&text[..n])?;
     }
     Ok(())
 }
 
 // The events, then the links.
 fn traced(rt: &HostRuntime, table: &mut [u8]) -> io::Result<()>
-    requires { length table.old ≤ 5120 }
+    requires { length table.old ≤ TABLE }
 {
-    let mut text = [0u8; 8608];
-    all_events(rt, table, &mut text)?;
-    print_links(rt, table, &mut text)
+    let mut b = Buffers {
+        event: [0; EVENT],
+        out: [0; ROOM],
+        text: [0; TEXT],
+    };
+    all_events(rt, table, &mut b)?;
+    print_links(rt, table, &mut b.text)
 }
 
 fn main(rt: HostRuntime) -> io::Result<()> {
-    let mut table = [0u8; 5120];
-    let octets = read_table(&rt, &mut table)?;
-    if octets == 0 {
+    let mut table = [0u8; TABLE];
+    let Some(octets) = read_table(&rt, &mut table)? else {
         return rt.write_all(b"T 1\n");
-    }
+    };
     traced(&rt, &mut table[..octets])
 }

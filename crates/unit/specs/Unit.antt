@@ -1,9 +1,7 @@
 -- Clause 10 of Q.2140: the status field, the unit of four octets, and what a message that arrived is.
-use Rattle.std.specs.Prelude.{ℕ, ◌≡◌, Bool, true, false, cond, ◌||◌, List, [], ◌∷◌, eqb}
+use Rattle.std.specs.Prelude.{ℕ, ◌≡◌, Bool, cond, ◌||◌, List, [], ◌∷◌, eqb, Option, Some, None, is_some}
 use Rattle.unit.specs.declared.Status.{Status}
 use Rattle.unit.specs.declared.Status.TheVariants.{OOS, PO, INS, NM, EM, ANS, MI, PE, PNS}
-use Rattle.unit.specs.declared.Field.{Field}
-use Rattle.unit.specs.declared.Field.TheVariants.{Named, Unnamed}
 use Rattle.unit.specs.declared.Arrived.{Arrived}
 use Rattle.unit.specs.declared.Arrived.TheVariants.{Other, Short, Long}
 
@@ -23,17 +21,16 @@ abbrev pub statuses : List Status
 statuses = OOS ∷ PO ∷ INS ∷ NM ∷ EM ∷ ANS ∷ MI ∷ PE ∷ PNS ∷ []
 
 -- Of some statuses the one that a field codes.
-abbrev pub coded : ℕ → List Status → Field
-coded field [] = Unnamed
-coded field (s ∷ others) = cond (eqb field (code s)) (Named s) (coded field others)
+abbrev pub coded : ℕ → List Status → Option Status
+coded field [] = None
+coded field (s ∷ others) = cond (eqb field (code s)) (Some s) (coded field others)
 
-unfoldable pub decoded : ℕ → Field
+unfoldable pub decoded : ℕ → Option Status
 decoded field = coded field statuses
 
 -- A field names one of the nine, or is none, 0.
-abbrev pub is_named : Field → Bool
-is_named (Named s) = true
-is_named Unnamed = false
+abbrev pub is_named : Option Status → Bool
+is_named = is_some
 
 abbrev pub is_status : ℕ → Bool
 is_status field = is_named (decoded field)
@@ -59,13 +56,13 @@ arrived (a ∷ b ∷ c ∷ status ∷ []) = kind status
 arrived (a ∷ b ∷ c ∷ d ∷ e ∷ rest) = Long
 
 -- The status of what arrived.
-abbrev pub status_of : Arrived → Field
-status_of Arrived.NM = Named NM
-status_of Arrived.INS = Named INS
+abbrev pub status_of : Arrived → Option Status
+status_of Arrived.NM = Some NM
+status_of Arrived.INS = Some INS
 status_of (Other status) = decoded status
-status_of Short = Unnamed
-status_of Long = Unnamed
+status_of Short = None
+status_of Long = None
 
 -- Reading what was written gives the same status, for every status.
 abbrev pub RoundTrip : Type 0
-RoundTrip = (s : Status) → status_of (arrived (unit_of s)) ≡ Named s
+RoundTrip = (s : Status) → status_of (arrived (unit_of s)) ≡ Some s

@@ -2,40 +2,22 @@
 #![tactic(auto)]
 
 ghost use Rattle.std.specs.Prelude.{◌≡◌};
-ghost use Rattle.unit.specs.Unit.{none_or_status, code, decoded, unit_of, arrived};
+ghost use Rattle.unit.specs.Unit.{none_or_status, code, unit_of, arrived};
+ghost use Rattle.unit.specs.Named.{Names, MpsNamed};
 ghost use Rattle.unit.specs.Proving.{mps_code, ups_code, asked, table7, table8};
 
-// The codes of the status field, as clause 10 lists them.
-pub const OOS: u8 = 1;
-
-pub const PO: u8 = 2;
-
-pub const INS: u8 = 3;
-
-pub const NM: u8 = 4;
-
-pub const EM: u8 = 5;
-
-pub const ANS: u8 = 7;
-
-pub const MI: u8 = 8;
-
-pub const PE: u8 = 9;
-
-pub const PNS: u8 = 10;
-
-// What a peer says of itself in a unit.
-#[derive(Clone, Copy)]
+// What a peer says of itself in a unit, each with the code that clause 10 lists.
+#[derive(Clone, Copy, PartialEq, Eq)]
 pub enum Status {
-    OOS,
-    PO,
-    INS,
-    NM,
-    EM,
-    ANS,
-    MI,
-    PE,
-    PNS,
+    OOS = 1,
+    PO = 2,
+    INS = 3,
+    NM = 4,
+    EM = 5,
+    ANS = 7,
+    MI = 8,
+    PE = 9,
+    PNS = 10,
 }
 
 impl Status {
@@ -43,43 +25,40 @@ impl Status {
     pub fn code(self) -> u8
         ensures { result ≡ code self }
     {
-        match self {
-            Status::OOS => OOS,
-            Status::PO => PO,
-            Status::INS => INS,
-            Status::NM => NM,
-            Status::EM => EM,
-            Status::ANS => ANS,
-            Status::MI => MI,
-            Status::PE => PE,
-            Status::PNS => PNS,
-        }
+        self as u8
     }
 }
 
-// A status field that was received: one of the nine, or a code that clause 10 doesn't have.
-#[derive(Clone, Copy)]
-pub enum Field {
-    Named(Status),
-    Unnamed,
-}
+const INS: u8 = Status::INS as u8;
+
+const NM: u8 = Status::NM as u8;
+
+const EM: u8 = Status::EM as u8;
+
+// A code that stands for none of what is asked for.
+#[derive(Clone, Copy, PartialEq, Eq)]
+pub struct Unnamed;
 
 // Reads a status field.
-#[tactic(auto, unfolding(crate::specs::Unit::decoded))]
-pub fn decode(field: u8) -> Field
-    ensures { result ≡ decoded field }
-{
-    match field {
-        OOS => Field::Named(Status::OOS),
-        PO => Field::Named(Status::PO),
-        INS => Field::Named(Status::INS),
-        NM => Field::Named(Status::NM),
-        EM => Field::Named(Status::EM),
-        ANS => Field::Named(Status::ANS),
-        MI => Field::Named(Status::MI),
-        PE => Field::Named(Status::PE),
-        PNS => Field::Named(Status::PNS),
-        _ => Field::Unnamed,
+impl TryFrom<u8> for Status {
+    type Error = Unnamed;
+
+    ghost try_from_gives = { Names };
+
+    #[tactic(auto, unfolding(crate::specs::Unit::decoded))]
+    fn try_from(field: u8) -> Result<Self, Unnamed> {
+        match field {
+            1 => Ok(Status::OOS),
+            2 => Ok(Status::PO),
+            3 => Ok(Status::INS),
+            4 => Ok(Status::NM),
+            5 => Ok(Status::EM),
+            7 => Ok(Status::ANS),
+            8 => Ok(Status::MI),
+            9 => Ok(Status::PE),
+            10 => Ok(Status::PNS),
+            _ => Err(Unnamed),
+        }
     }
 }
 
@@ -87,13 +66,7 @@ pub fn decode(field: u8) -> Field
 pub fn none_or_status(field: u8) -> bool
     ensures { result ≡ none_or_status field }
 {
-    if field == 0 {
-        return true;
-    }
-    match decode(field) {
-        Field::Named(_) => true,
-        Field::Unnamed => false,
-    }
+    field == 0 || Status::try_from(field).is_ok()
 }
 
 // Writes a unit.
@@ -115,6 +88,7 @@ pub enum Arrived {
 }
 
 // Reads a message that arrived, a long one with one test. The reserved octets are not looked at.
+#[tactic(auto, using(crate::proofs::Unit::by_length), unfolding(crate::specs::Unit::kind))]
 pub fn read(message: &[u8]) -> Arrived
     ensures { result ≡ arrived message.now }
 {
@@ -125,31 +99,40 @@ pub fn read(message: &[u8]) -> Arrived
         return Arrived::Short;
     }
     let status = message[3];
-    if status == NM {
-        return Arrived::NM;
+    match status {
+        NM => Arrived::NM,
+        INS => Arrived::INS,
+        _ => Arrived::Other(status),
     }
-    if status == INS {
-        return Arrived::INS;
-    }
-    Arrived::Other(status)
 }
 
 // Management_Proving_Status: what layer management forces.
 #[derive(Clone, Copy)]
 pub enum Mps {
-    Neutral,
-    Normal,
-    Emergency,
+    Neutral = 0,
+    Normal = 1,
+    Emergency = 2,
 }
 
 impl Mps {
     pub fn code(self) -> u8
         ensures { result ≡ mps_code self }
     {
-        match self {
-            Mps::Neutral => 0,
-            Mps::Normal => 1,
-            Mps::Emergency => 2,
+        self as u8
+    }
+}
+
+impl TryFrom<u8> for Mps {
+    type Error = Unnamed;
+
+    ghost try_from_gives = { MpsNamed };
+
+    fn try_from(code: u8) -> Result<Self, Unnamed> {
+        match code {
+            0 => Ok(Mps::Neutral),
+            1 => Ok(Mps::Normal),
+            2 => Ok(Mps::Emergency),
+            _ => Err(Unnamed),
         }
     }
 }
@@ -157,18 +140,15 @@ impl Mps {
 // User_Proving_Status: what the user wishes.
 #[derive(Clone, Copy)]
 pub enum Ups {
-    Normal,
-    Emergency,
+    Normal = 0,
+    Emergency = 1,
 }
 
 impl Ups {
     pub fn code(self) -> u8
         ensures { result ≡ ups_code self }
     {
-        match self {
-            Ups::Normal => 0,
-            Ups::Emergency => 1,
-        }
+        self as u8
     }
 }
 
@@ -187,6 +167,7 @@ fn asks(field: u8) -> Ups
 }
 
 // The number of proving units to be sent on a connection that comes up with the peer's field.
+#[tactic(auto, using(crate::proofs::Proving::by_entry))]
 pub fn generate_n1(mps: Mps, ups: Ups, field: u8, n1: u16) -> u16
     ensures { result ≡ table7 mps ups (asked field) n1 }
 {
@@ -199,12 +180,10 @@ pub fn generate_n1(mps: Mps, ups: Ups, field: u8, n1: u16) -> u16
 pub fn sscop_uu(mps: Mps, ups: Ups) -> Status
     ensures { result ≡ table8 mps ups }
 {
-    match mps {
-        Mps::Emergency => Status::EM,
-        Mps::Normal => Status::NM,
-        Mps::Neutral => match ups {
-            Ups::Normal => Status::NM,
-            Ups::Emergency => Status::EM,
-        },
+    match (mps, ups) {
+        (Mps::Emergency, _) => Status::EM,
+        (Mps::Normal, _) => Status::NM,
+        (Mps::Neutral, Ups::Normal) => Status::NM,
+        (Mps::Neutral, Ups::Emergency) => Status::EM,
     }
 }

@@ -13,6 +13,7 @@ use Rattle.signal.specs.SignalRecord.{body_of, signal_octets, joined, Put}
 use Rattle.signal.specs.Writing.{given, front_of, known, Ran, Halts}
 use Rattle.signal.proofs.SignalRecord.{signal_length}
 use Rattle.signal.proofs.Runs.{known_length, three, spoken, split, room, behind_brings, at_end}
+use Rattle.signal.proofs.put_all.Goals.{After-put_run-first}
 use Rattle.signal.proofs.put_all.Goals as goal
 
 -- the signals of a step are those of its words
@@ -29,13 +30,27 @@ nothing : (o : Given) (k : ℕ) (m : List ℕ) (n rest : ℕ) → n ≡ 0 → jo
 unfolding joined
 nothing o k m n rest h = ap (λ (j : ℕ). joined k m (spoken o j rest)) h
 
-moving : (r : Run) → (r.left ≡ 0 → ⊥) → Halts r → 36 ≤ r.rest % 256
-moving r n (inl z) = absurd (n z)
-moving r n (inr h) = h
+-- AFTER THE FIRST RUN: o what signals are given, e the event, d the output as it was, n the count of the words, w the words, r where the run stands, out what is written.
+-- The octet is the lower of the link's number.
+record First (o : Given) (e d : List ℕ) (n w : ℕ) (r : Run) (out : List ℕ) : Type 0 where
+  octet : at e 3 < 256
+  ran : Ran (front_of e) (record { at = 0; rest = w; left = n }) d r out
+  fits : length (joined (link_at e) (message_of e) (signals_of n w o)) ≤ length d
 
--- AFTER THE FIRST RUN: e the event, d the output as it was, n the count of the words, w the words, r where the run stands, out what is written
-module _ (o : Given) (e d : List ℕ) (n w : ℕ) (r : Run) (out : List ℕ) (b : at e 3 < 256) (t : Ran (front_of e) (record { at = 0; rest = w; left = n }) d r out)
-    (fits : length (joined (link_at e) (message_of e) (signals_of n w o)) ≤ length d) where
+-- It stands before a signal that carries something, as at most one does.
+record Stops (o : Given) (n w : ℕ) (r : Run) : Type 0 where
+  one : brought (signals_of n w o) ≤ 1
+  some : 1 ≤ r.left
+  bringing : 36 ≤ r.rest % 256
+
+stops : (o : Given) (n w : ℕ) (r : Run) → brought (signals_of n w o) ≤ 1 → (r.left ≡ 0 → ⊥) → Halts r → Stops o n w r
+stops o n w r h z (inl q) = absurd (z q)
+stops o n w r h z (inr q) = record { one = h; some = omega (arith, z); bringing = q }
+
+module _ {o : Given} {e d : List ℕ} {n w : ℕ} {r : Run} {out : List ℕ} (first : First o e d n w r out) where
+  abbrev t : Ran (front_of e) (record { at = 0; rest = w; left = n }) d r out
+  t = first.ran
+
   abbrev K : List ℕ
   K = known (front_of e) t.told w
 
@@ -49,12 +64,12 @@ module _ (o : Given) (e d : List ℕ) (n w : ℕ) (r : Run) (out : List ℕ) (b 
   parts : joined (link_at e) (message_of e) (signals_of n w o) ≡ K ++ J
   parts =
       ap (joined (link_at e) (message_of e)) (by_words n w o)
-      ∙ split o e (message_of e) b n t.told r.left w t.all t.words
+      ∙ split o e (message_of e) first.octet n t.told r.left w t.all t.words
       ∙ ap (λ (x : ℕ). K ++ joined (link_at e) (message_of e) (spoken o r.left x)) (sym t.rest)
 
   -- has room
   inside : r.at + length J ≤ length d
-  inside = omega (arith, t.at, long, ap length parts, length-append K J, fits)
+  inside = omega (arith, t.at, long, ap length parts, length-append K J, first.fits)
 
   same : length out ≡ length d
   same = ap length t.written ∙ length_put d K 0 (omega (arith, t.at, long, inside))
@@ -69,13 +84,7 @@ module _ (o : Given) (e d : List ℕ) (n w : ℕ) (r : Run) (out : List ℕ) (b 
       }
 
   -- THE SIGNAL THAT CARRIES SOMETHING
-  module _ (one : brought (signals_of n w o) ≤ 1) (z : r.left ≡ 0 → ⊥) (halts : Halts r) where
-    bringing : 36 ≤ r.rest % 256
-    bringing = moving r z halts
-
-    some : 1 ≤ r.left
-    some = omega (arith, z)
-
+  module _ (s : Stops o n w r) where
     abbrev G : Signal
     G = meant_by o (word_at (r.rest % 256))
 
@@ -87,7 +96,7 @@ module _ (o : Given) (e d : List ℕ) (n w : ℕ) (r : Run) (out : List ℕ) (b 
     Z = joined (link_at e) (message_of e) (spoken o (r.left - 1) (r.rest / 256))
 
     next : J ≡ Y ++ Z
-    next = one_more o (link_at e) (message_of e) r.left r.rest some
+    next = one_more o (link_at e) (message_of e) r.left r.rest s.some
 
     further : r.at + (length Y + length Z) ≤ length d
     further = omega (arith, inside, ap length next, length-append Y Z)
@@ -95,9 +104,9 @@ module _ (o : Given) (e d : List ℕ) (n w : ℕ) (r : Run) (out : List ℕ) (b 
     -- and no other does
     at_most_one : brought (spoken o (suc (r.left - 1)) r.rest) ≤ 1
     at_most_one =
-        let q : r.left ≡ suc (r.left - 1) = omega (arith, some) in
+        let q : r.left ≡ suc (r.left - 1) = omega (arith, s.some) in
         let h = behind_brings o n t.told r.left w t.all in
-        let g = subst (λ (l : List Signal). brought l ≤ 1) (by_words n w o) one in
+        let g = subst (λ (l : List Signal). brought l ≤ 1) (by_words n w o) s.one in
         let f : brought (spoken o r.left r.rest) ≤ 1 = subst (λ (x : ℕ). brought (spoken o r.left x) ≤ 1) (sym t.rest) (omega (arith, h, g)) in
         subst (λ (x : ℕ). brought (spoken o x r.rest) ≤ 1) q f
 
@@ -109,7 +118,7 @@ module _ (o : Given) (e d : List ℕ) (n w : ℕ) (r : Run) (out : List ℕ) (b 
     fits_behind = simp (length-take, length-drop) (omega (arith, further, same, signal_length (link_at e) (message_of e) G))
 
     rest_fits : (m : ℕ) → m ≡ length Y → r.at + m + 12 * (r.left - 1) ≤ length out
-    rest_fits m h = omega (arith, h, further, same, room o e (message_of e) b (r.left - 1) (r.rest / 256))
+    rest_fits m h = omega (arith, h, further, same, room o e (message_of e) first.octet (r.left - 1) (r.rest / 256))
 
     -- the output with it in its place is as long as before
     rest_fits_behind : (m : ℕ) (y : List ℕ) → Put Y (take (length out - r.at) (drop r.at out)) m y → r.at + m + 12 * (r.left - 1) ≤ length (take r.at out ++ (y ++ drop (length out - r.at) (drop r.at out)))
@@ -121,13 +130,13 @@ module _ (o : Given) (e d : List ℕ) (n w : ℕ) (r : Run) (out : List ℕ) (b 
     at_last : (m : ℕ) (y : List ℕ) (last : Run) (out' : List ℕ) → Put Y (take (length out - r.at) (drop r.at out)) m y →
         Ran (front_of e) (record { at = r.at + m; rest = r.rest / 256; left = r.left - 1 }) (take r.at out ++ (y ++ drop (length out - r.at) (drop r.at out))) last out' → Halts last →
         Put (joined (link_at e) (message_of e) (signals_of n w o)) d last.at out'
-    at_last m y last out' p u stops =
+    at_last m y last out' p u halts =
         let d' : List ℕ = take r.at out ++ (y ++ drop (length out - r.at) (drop r.at out)) in
         let run : Run = record { at = r.at + m; rest = r.rest / 256; left = r.left - 1 } in
-        let z = at_end o (front_of e) r.rest run last d' out' bringing refl at_most_one u stops in
+        let z = at_end o (front_of e) r.rest run last d' out' s.bringing refl at_most_one u halts in
         let x = known (front_of e) u.told (r.rest / 256) in
         let q : Z ≡ x =
-        split o e (message_of e) b (r.left - 1) u.told last.left (r.rest / 256) u.all u.words
+        split o e (message_of e) first.octet (r.left - 1) u.told last.left (r.rest / 256) u.all u.words
         ∙ ap (λ (l : List ℕ). x ++ l) (nothing o (link_at e) (message_of e) last.left _ z) ∙ append-nil x in
         rw (parts ∙ ap (λ (l : List ℕ). K ++ l) (next ∙ ap (λ (l : List ℕ). Y ++ l) q))
         (three K Y x t.written (omega (arith, t.at, long)) (lent out y Y r.at p.written) (omega (arith, p.answer)) u.written (omega (arith, u.at, known_length (front_of e) u.told (r.rest / 256) refl u.words)))
@@ -136,83 +145,79 @@ module _ (o : Given) (e d : List ℕ) (n w : ℕ) (r : Run) (out : List ℕ) (b 
 fronted_run : (f e : List ℕ) (run : Run) (d : List ℕ) (r : Run) (out : List ℕ) → f ≡ front_of e → Ran f run d r out → Ran (front_of e) run d r out
 fronted_run f e run d r out q t = subst (λ (x : List ℕ). Ran x run d r out) q t
 
+-- what there is after it, by the code
+first_of : (c : After-put_run-first) → at c.args.e.now 3 < 256 → First (given (link_of c.args.left.now) c.args.e.now) c.args.e.now c.args.out.now c.args.count c.args.words c.put_run-first.result c.put_run-first.new.out
+first_of c b =
+    let a = c.args in
+    record {
+      octet = b;
+      ran =
+          fronted_run c.front_of-front.result a.e.now (record { at = 0; rest = a.words; left = a.count }) a.out.now c.put_run-first.result c.put_run-first.new.out c.front_of-front.ensures c.put_run-first.ensures.0;
+      fits = c.requires.4;
+    }
+
+stops_of : (c : After-put_run-first) → (c.put_run-first.result.left ≡ 0 → ⊥) → Stops (given (link_of c.args.left.now) c.args.e.now) c.args.count c.args.words c.put_run-first.result
+stops_of c z = stops (given (link_of c.args.left.now) c.args.e.now) c.args.count c.args.words c.put_run-first.result c.requires.3 z c.put_run-first.ensures.1
+
 pub put_run-first-requires : goal.put_run-first-requires
 put_run-first-requires c =
     let a = c.args in
     let e = a.e.now in
     let o = given (link_of a.left.now) e in
     let h = ap (λ (l : List Signal). length (joined (link_at e) (message_of e) l)) (by_words a.count a.words o) in
-    (ap length c.front_of-front.ensures, omega (arith, room o e (message_of e) (omega (arith, c.type_inv.e 3)) a.count a.words, h, c.requires.5))
+    (ap length c.front_of-front.ensures, omega (arith, room o e (message_of e) (omega (arith, c.type_inv.e 3)) a.count a.words, h, c.requires.4))
 
 pub returns-then-first-eq0 : goal.returns-then-first-eq0
 returns-then-first-eq0 c =
-    let a = c.args in
-    let r = c.put_run-first.result in
-    let out = c.put_run-first.new.out in
-    let b : at a.e.now 3 < 256 = omega (arith, c.type_inv.e 3) in
-    let t = fronted_run c.front_of-front.result a.e.now (record { at = 0; rest = a.words; left = a.count }) a.out.now r out c.front_of-front.ensures c.put_run-first.ensures.0 in
-    at_once (given (link_of a.left.now) a.e.now) a.e.now a.out.now a.count a.words r out b t c.requires.5 c.if-first-eq0.true
+    let p = (goal.at.returns-then-first-eq0 c).After-put_run-first in
+    let f = first_of p (omega (arith, c.type_inv.e 3)) in
+    at_once f c.if-first-eq0.true
 
 pub slice_bounds-put_other-count : goal.slice_bounds-put_other-count
 slice_bounds-put_other-count c =
-    let a = c.args in
-    let r = c.put_run-first.result in
-    let out = c.put_run-first.new.out in
-    let b : at a.e.now 3 < 256 = omega (arith, c.type_inv.e 3) in
-    let t = fronted_run c.front_of-front.result a.e.now (record { at = 0; rest = a.words; left = a.count }) a.out.now r out c.front_of-front.ensures c.put_run-first.ensures.0 in
-    starts (given (link_of a.left.now) a.e.now) a.e.now a.out.now a.count a.words r out b t c.requires.5 c.requires.4 c.if-first-eq0.false c.put_run-first.ensures.1
+    let p = (goal.at.slice_bounds-put_other-count c).After-put_run-first in
+    let f = first_of p (omega (arith, c.type_inv.e 3)) in
+    let s = stops_of p c.if-first-eq0.false in
+    starts f s
 
 pub slice_bounds-put_other-start : goal.slice_bounds-put_other-start
 slice_bounds-put_other-start c =
-    let a = c.args in
-    let r = c.put_run-first.result in
-    let out = c.put_run-first.new.out in
-    let b : at a.e.now 3 < 256 = omega (arith, c.type_inv.e 3) in
-    let t = fronted_run c.front_of-front.result a.e.now (record { at = 0; rest = a.words; left = a.count }) a.out.now r out c.front_of-front.ensures c.put_run-first.ensures.0 in
-    omega (arith, starts (given (link_of a.left.now) a.e.now) a.e.now a.out.now a.count a.words r out b t c.requires.5 c.requires.4 c.if-first-eq0.false c.put_run-first.ensures.1)
+    let p = (goal.at.slice_bounds-put_other-start c).After-put_run-first in
+    let f = first_of p (omega (arith, c.type_inv.e 3)) in
+    let s = stops_of p c.if-first-eq0.false in
+    omega (arith, starts f s)
 
 pub put_other-m-requires : goal.put_other-m-requires
 put_other-m-requires c =
-    let a = c.args in
-    let r = c.put_run-first.result in
-    let out = c.put_run-first.new.out in
-    let b : at a.e.now 3 < 256 = omega (arith, c.type_inv.e 3) in
-    let t = fronted_run c.front_of-front.result a.e.now (record { at = 0; rest = a.words; left = a.count }) a.out.now r out c.front_of-front.ensures c.put_run-first.ensures.0 in (
-      bringing (given (link_of a.left.now) a.e.now) a.e.now a.out.now a.count a.words r out b t c.requires.5 c.requires.4 c.if-first-eq0.false c.put_run-first.ensures.1,
-      c.front_of-front.ensures,
-      c.requires.0,
-      (c.requires.1, c.requires.2, c.requires.3),
-      fits_behind (given (link_of a.left.now) a.e.now) a.e.now a.out.now a.count a.words r out b t c.requires.5 c.requires.4 c.if-first-eq0.false c.put_run-first.ensures.1,
-    )
+    let p = (goal.at.put_other-m-requires c).After-put_run-first in
+    let f = first_of p (omega (arith, c.type_inv.e 3)) in
+    let s = stops_of p c.if-first-eq0.false in
+    (s.bringing, c.front_of-front.ensures, fits_behind f s)
 
 pub overflow_add-at : goal.overflow_add-at
 overflow_add-at c =
-    let a = c.args in
-    let r = c.put_run-first.result in
-    let out = c.put_run-first.new.out in
-    let b : at a.e.now 3 < 256 = omega (arith, c.type_inv.e 3) in
-    let t = fronted_run c.front_of-front.result a.e.now (record { at = 0; rest = a.words; left = a.count }) a.out.now r out c.front_of-front.ensures c.put_run-first.ensures.0 in
-    omega (arith, rest_fits (given (link_of a.left.now) a.e.now) a.e.now a.out.now a.count a.words r out b t c.requires.5 c.requires.4 c.if-first-eq0.false c.put_run-first.ensures.1 c.put_other-m.result c.put_other-m.ensures.answer)
+    let p = (goal.at.overflow_add-at c).After-put_run-first in
+    let f = first_of p (omega (arith, c.type_inv.e 3)) in
+    let s = stops_of p c.if-first-eq0.false in
+    omega (arith, rest_fits f s c.put_other-m.result c.put_other-m.ensures.answer)
 
 pub put_run-last-requires : goal.put_run-last-requires
 put_run-last-requires c =
-    let a = c.args in
-    let r = c.put_run-first.result in
-    let out = c.put_run-first.new.out in
-    let b : at a.e.now 3 < 256 = omega (arith, c.type_inv.e 3) in
-    let t = fronted_run c.front_of-front.result a.e.now (record { at = 0; rest = a.words; left = a.count }) a.out.now r out c.front_of-front.ensures c.put_run-first.ensures.0 in
-    (ap length c.front_of-front.ensures, rest_fits_behind (given (link_of a.left.now) a.e.now) a.e.now a.out.now a.count a.words r out b t c.requires.5 c.requires.4 c.if-first-eq0.false c.put_run-first.ensures.1 c.put_other-m.result c.put_other-m.new.out c.put_other-m.ensures)
+    let p = (goal.at.put_run-last-requires c).After-put_run-first in
+    let f = first_of p (omega (arith, c.type_inv.e 3)) in
+    let s = stops_of p c.if-first-eq0.false in
+    (ap length c.front_of-front.ensures, rest_fits_behind f s c.put_other-m.result c.put_other-m.new.out c.put_other-m.ensures)
 
 pub returns : goal.returns
 returns c =
-    let a = c.args in
+    let p = (goal.at.returns c).After-put_run-first in
+    let f = first_of p (omega (arith, c.type_inv.e 3)) in
+    let s = stops_of p c.if-first-eq0.false in
     let r = c.put_run-first.result in
     let out = c.put_run-first.new.out in
-    let b : at a.e.now 3 < 256 = omega (arith, c.type_inv.e 3) in
-    let t = fronted_run c.front_of-front.result a.e.now (record { at = 0; rest = a.words; left = a.count }) a.out.now r out c.front_of-front.ensures c.put_run-first.ensures.0 in
     let m = c.put_other-m.result in
     let y = c.put_other-m.new.out in
     let run : Run = record { at = r.at + m; rest = r.rest / 256; left = r.left - 1 } in
     let d : List ℕ = take r.at out ++ (y ++ drop (length out - r.at) (drop r.at out)) in
-    let u = fronted_run c.front_of-front.result a.e.now run d c.put_run-last.result c.put_run-last.new.out c.front_of-front.ensures c.put_run-last.ensures.0 in
-    at_last (given (link_of a.left.now) a.e.now) a.e.now a.out.now a.count a.words r out b t c.requires.5 c.requires.4 c.if-first-eq0.false c.put_run-first.ensures.1 m y c.put_run-last.result c.put_run-last.new.out c.put_other-m.ensures u c.put_run-last.ensures.1
+    let u = fronted_run c.front_of-front.result c.args.e.now run d c.put_run-last.result c.put_run-last.new.out c.front_of-front.ensures c.put_run-last.ensures.0 in
+    at_last f s m y c.put_run-last.result c.put_run-last.new.out c.put_other-m.ensures u c.put_run-last.ensures.1

@@ -14,10 +14,13 @@ use Rattle.octet.specs.Octets.{at, put_at}
 use Rattle.record.specs.LinkRecord.{link_of}
 use Rattle.event.specs.Frame.{param_at, number_at, message_of}
 use Rattle.event.proofs.Frame.{length_octets}
+use Rattle.signal.specs.Source.{brought_by}
 use Rattle.signal.specs.SignalRecord.{body_of}
-use Rattle.signal.specs.Writing.{given, from_code, carrying_at, PutCode}
+use Rattle.signal.specs.Writing.{from_code, carrying_at, PutCode}
 use Rattle.signal.proofs.SignalRecord.{last_word, stored, with_body, with_end}
+use Rattle.signal.proofs.put_carrying.Goals.{After-put_at}
 use Rattle.signal.proofs.put_carrying.Goals as goal
+use Rattle.signal.proofs.put_carrying.Goals.{then-w-ge-RETRIEVE_REQUEST, else-w-ge-RETRIEVE_REQUEST}
 
 -- WHAT EACH RANGE OF WORDS COMES TO
 
@@ -71,8 +74,8 @@ tail e h = drop-cons e 10 0 (omega arith) ∙ ap (λ (l : List ℕ). at e 10 ∷
 
 -- THE EIGHT OCTETS ARE WRITTEN
 
-written : (w : ℕ) (r d d₁ : List ℕ) → r ≡ carrying_at w → d₁ ≡ put_at d 4 r → PutCode (carrying_at w) d 12 d₁
-written w r d d₁ p q = record { answer = refl; written = q ∙ ap (put_at d 4) p }
+eight : (c : After-put_at) → PutCode (carrying_at c.args.w) c.args.out.now 12 c.put_at.new.dst
+eight c = record { answer = refl; written = c.put_at.ensures ∙ ap (put_at c.args.out.now 4) c.carrying-eight.ensures }
 
 eight_long : (w : ℕ) → length (carrying_at w) ≡ 8
 eight_long w = refl
@@ -80,20 +83,20 @@ eight_long w = refl
 pub with_message-requires : goal.with_message-requires
 with_message-requires c =
     let a = c.args in
-    let h = rw (carries_message (given (link_of a.left.now) a.e.now) a.w (ltb a.w 46) c.if-w-ge-RECEIVED_MESSAGE.true refl) at c.requires.3 in
-    (c.requires.2, omega (arith, h, c.requires.2.0, length-drop 12 a.e.now))
+    let h = rw (carries_message (brought_by a.source) a.w (ltb a.w 46) c.if-w-ge-RECEIVED_MESSAGE.true refl) at c.requires.1 in
+    (c.args.source.whole, omega (arith, h, c.args.source.whole.0, length-drop 12 a.source.event.now))
 
 pub returns-then-w-ge-RECEIVED_MESSAGE : goal.returns-then-w-ge-RECEIVED_MESSAGE
 returns-then-w-ge-RECEIVED_MESSAGE c =
     let a = c.args in
-    let e = a.e.now in
+    let e = a.source.event.now in
     let m = message_of e in
-    let h = c.requires.2 in
-    let l = length_octets e (omega (arith, c.type_inv.e 11)) h.1 in
-    let u = written a.w c.carrying-eight.result a.out.now c.put_at.new.dst c.carrying-eight.ensures c.put_at.ensures in
-    let p = with_end u (omega (arith, c.requires.3)) 6 (drop 10 e) (eight_long a.w) (omega arith) (omega (arith, length-drop 10 e, h.0)) in
+    let h = c.args.source.whole in
+    let l = length_octets e (omega (arith, a.source.octets 11)) h.1 in
+    let u = eight (goal.at.returns-then-w-ge-RECEIVED_MESSAGE c).After-put_at in
+    let p = with_end u (omega (arith, c.requires.1)) 6 (drop 10 e) (eight_long a.w) (omega arith) (omega (arith, length-drop 10 e, h.0)) in
     let t : drop 10 e ≡ length m / 256 ∷ length m % 256 ∷ m = tail e h.0 ∙ (λ i. sym l.0 i ∷ sym l.1 i ∷ m) in
-    let q = ap (λ (x : List ℕ). take 6 (carrying_at a.w) ++ x) t ∙ of_message (given (link_of a.left.now) a.e.now) m a.w (ltb a.w 46) c.if-w-ge-RECEIVED_MESSAGE.true refl in
+    let q = ap (λ (x : List ℕ). take 6 (carrying_at a.w) ++ x) t ∙ of_message (brought_by a.source) m a.w (ltb a.w 46) c.if-w-ge-RECEIVED_MESSAGE.true refl in
     let g = c.with_message.ensures in
     record {
       answer = omega (arith, g.0, p.answer, ap length q, length-drop 10 e, h.0);
@@ -121,42 +124,41 @@ carries_unit o m w false h k e = let q : w ≡ 43 = omega (arith, ltb-false w 43
 pub with_unit-requires : goal.with_unit-requires
 with_unit-requires c =
     let a = c.args in
-    let h = carries_unit (given (link_of a.left.now) a.e.now) (message_of a.e.now) a.w (ltb a.w 43) c.if-w-ge-UNIT_NM.true (omega arith) refl in
-    omega (arith, h, unit_long c.unit_in.result, c.requires.3)
+    let h = carries_unit (brought_by a.source) (message_of a.source.event.now) a.w (ltb a.w 43) c.if-w-ge-UNIT_NM.true (omega arith) refl in
+    omega (arith, h, unit_long c.unit_in.result, c.requires.1)
 
 pub returns-then-w-ge-UNIT_NM : goal.returns-then-w-ge-UNIT_NM
 returns-then-w-ge-UNIT_NM c =
     let a = c.args in
-    let u = written a.w c.carrying-eight.result a.out.now c.put_at.new.dst c.carrying-eight.ensures c.put_at.ensures in
-    either_unit (given (link_of a.left.now) a.e.now) (message_of a.e.now) a.w (ltb a.w 43) c.if-w-ge-UNIT_NM.true (omega arith) refl c.unit_in.ensures (omega (arith, c.requires.3)) u c.with_unit.ensures
+    let u = eight (goal.at.returns-then-w-ge-UNIT_NM c).After-put_at in
+    either_unit (brought_by a.source) (message_of a.source.event.now) a.w (ltb a.w 43) c.if-w-ge-UNIT_NM.true (omega arith) refl c.unit_in.ensures (omega (arith, c.requires.1)) u c.with_unit.ensures
 
 pub returns-then-w-ge-ESTABLISH_REQUEST : goal.returns-then-w-ge-ESTABLISH_REQUEST
 returns-then-w-ge-ESTABLISH_REQUEST c =
     let a = c.args in
-    let u = written a.w c.carrying-eight.result a.out.now c.put_at.new.dst c.carrying-eight.ensures c.put_at.ensures in
-    of_param_set (carrying_at a.w) c.offered.result (eight_long a.w) (omega (arith, c.requires.3)) u c.with_param.ensures
-    (ap (set (carrying_at a.w) 1) c.offered.ensures ∙ of_offer (given (link_of a.left.now) a.e.now) (message_of a.e.now) a.w (omega arith) (omega arith))
+    let u = eight (goal.at.returns-then-w-ge-ESTABLISH_REQUEST c).After-put_at in
+    of_param_set (carrying_at a.w) c.offered.result (eight_long a.w) (omega (arith, c.requires.1)) u c.with_param.ensures
+    (ap (set (carrying_at a.w) 1) c.offered.ensures ∙ of_offer (brought_by a.source) (message_of a.source.event.now) a.w (omega arith) (omega arith))
 
 pub returns-then-w-ge-LINK_CONGESTED : goal.returns-then-w-ge-LINK_CONGESTED
 returns-then-w-ge-LINK_CONGESTED c =
     let a = c.args in
-    let u = written a.w c.carrying-eight.result a.out.now c.put_at.new.dst c.carrying-eight.ensures c.put_at.ensures in
-    of_param_set (carrying_at a.w) (param_at a.e.now) (eight_long a.w) (omega (arith, c.requires.3)) u c.with_param-then-w-ge-LINK_CONGESTED.ensures
-    (of_param (given (link_of a.left.now) a.e.now) (message_of a.e.now) a.w (omega arith) (omega arith))
-
-pub returns-then-w-ge-RETRIEVE_REQUEST : goal.returns-then-w-ge-RETRIEVE_REQUEST
-returns-then-w-ge-RETRIEVE_REQUEST c =
-    let a = c.args in
-    let n = number_at a.e.now in
-    let q : a.w ≡ 37 = omega (arith, c.if-w-ge-RETRIEVE_REQUEST.true, c.if-w-ge-LINK_CONGESTED.false) in
-    let u = written a.w c.carrying-eight.result a.out.now c.put_at.new.dst c.carrying-eight.ensures c.put_at.ensures in
-    rw q (of_number_set a.w 37 n.a n.b n.c {l = from_code (message_of a.e.now) (meant_by (given (link_of a.left.now) a.e.now) (word_at 37))} q refl (omega (arith, c.requires.3)) u c.with_number.ensures refl)
+    let u = eight (goal.at.returns-then-w-ge-LINK_CONGESTED c).After-put_at in
+    of_param_set (carrying_at a.w) (param_at a.source.event.now) (eight_long a.w) (omega (arith, c.requires.1)) u c.with_param-then-w-ge-LINK_CONGESTED.ensures
+    (of_param (brought_by a.source) (message_of a.source.event.now) a.w (omega arith) (omega arith))
 
 pub returns : goal.returns
 unfolding link_of
 returns c =
     let a = c.args in
-    let n = (link_of a.left.now).bsnt.num in
-    let q : a.w ≡ 36 = omega (arith, c.requires.0, c.if-w-ge-RETRIEVE_REQUEST.false) in
-    let u = written a.w c.carrying-eight.result a.out.now c.put_at.new.dst c.carrying-eight.ensures c.put_at.ensures in
-    rw q (of_number_set a.w 36 n.a n.b n.c {l = from_code (message_of a.e.now) (meant_by (given (link_of a.left.now) a.e.now) (word_at 36))} q refl (omega (arith, c.requires.3)) u c.with_number-2.ensures refl)
+    let u = eight (goal.at.returns c).After-put_at in
+    elim c.if-w-ge-RETRIEVE_REQUEST.branch [
+      | then-w-ge-RETRIEVE_REQUEST b ↦
+          let n = number_at a.source.event.now in
+          let q : a.w ≡ 37 = omega (arith, b.if-w-ge-RETRIEVE_REQUEST.true, c.if-w-ge-LINK_CONGESTED.false) in
+          rw q (of_number_set a.w 37 n.a n.b n.c {l = from_code (message_of a.source.event.now) (meant_by (brought_by a.source) (word_at 37))} q refl (omega (arith, c.requires.1)) u (rw b.at-is at c.with_number.ensures) refl)
+      | else-w-ge-RETRIEVE_REQUEST b ↦
+          let n = (link_of a.source.left.now).bsnt.num in
+          let q : a.w ≡ 36 = omega (arith, c.requires.0, b.if-w-ge-RETRIEVE_REQUEST.false) in
+          rw q (of_number_set a.w 36 n.a n.b n.c {l = from_code (message_of a.source.event.now) (meant_by (brought_by a.source) (word_at 36))} q refl (omega (arith, c.requires.1)) u (rw b.at-is at c.with_number.ensures) refl)
+    ]

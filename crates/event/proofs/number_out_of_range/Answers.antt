@@ -1,7 +1,0 @@
--- `event::number_out_of_range` meets its contract.
-use Rattle.event.specs.Frame.{code_at, number_at}
-use Rattle.event.proofs.Fields.{source_out_of_range}
-use Rattle.event.proofs.number_out_of_range.Goals as goal
-
-pub returns : goal.returns
-returns c = source_out_of_range (code_at c.args.e.now) (number_at c.args.e.now)
