@@ -144,7 +144,7 @@
  *   and at whatever levels CONGESTION came, and no other event does: level 0 too makes the link
  *   congested. Until then each connection with which the link would prove is given up.
  *
- * Where the stack is short: a step takes 136 octets and a burst 232, by the listing. glibc's
+ * Where the stack is short: a step takes 120 octets and a burst 216, by the listing. glibc's
  * memmove takes none, but where it is bound lazily its first call runs the dynamic loader, which
  * took 3 KB with 0.1.1, on a painted stack; memset can be bound so too.
  */
