@@ -47,7 +47,8 @@ pub fn event_line(text: &mut [u8], ordinal: u64, e: &[u8], refusal: u32, signals
     line.at
 }
 
-// How long the record is that begins some octets, if they hold one.
+// How long the record is that begins some octets, if they hold one. Not `front` of `event`: that asks for an event's mark and a sound frame, and these are signals, written by
+// `sscf`.
 pub fn first_record(octets: &[u8]) -> Option<usize>
     ensures { result ≡ first_record octets.now }
 {

@@ -6,9 +6,6 @@ use Rattle.lines.proofs.signal_line.Goals as goal
 pub add_message-requires : goal.add_message-requires
 add_message-requires c = omega (arith, ap length c.new-line.ensures.front.0, message_fits c.args.r.now _ c.message.ensures)
 
-pub add-requires-2 : goal.add-requires-2
-add-requires-2 c = omega (arith, ap length c.new-line.ensures.front.0, message_fits c.args.r.now _ c.message.ensures)
-
 pub returns : goal.returns
 returns c =
     let number = c.number-3.ensures.0 then c.number-4.ensures.0 then c.number-5.ensures.0 in
