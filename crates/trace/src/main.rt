@@ -17,12 +17,12 @@ const EVENT: usize = HEAD + MESSAGE as usize;
 
 const TEXT: usize = 128 + 2 * ROOM;
 
-// An event, the signals that it gives, and a line of text.
+// An event, and the signals that it gives. A line of text is apart from them: in one struct the compiler does not know that a message and the text that is made of it
+// lie in different places, and takes an octet at a time, where it takes eight.
 #[derive(Drop)]
 struct Buffers {
     event: [u8; EVENT],
     out: [u8; ROOM],
-    text: [u8; TEXT],
 }
 
 // Reads until buf is full or the input ends. Answers how many octets came. No `for`: each reading brings as many as there are.
@@ -99,27 +99,27 @@ fn one_event(
     ordinal: u64,
     table: &mut [u8],
     b: &mut Buffers,
+    text: &mut [u8; TEXT],
 ) -> io::Result<bool> {
     let Some(n) = read_event(rt, &mut b.event)? else {
         return Ok(false);
     };
     let answer = sscf::sscf_step(table, &b.event[..n], &mut b.out);
-    let k = lines::event_line(
-        &mut b.text,
-        ordinal,
-        &b.event,
-        answer.refusal,
-        answer.signals,
-    );
-    rt.write_all(&b.text[..k])?;
-    print_signals(rt, &mut b.text, &b.out, answer.signals)?;
+    let k = lines::event_line(text, ordinal, &b.event, answer.refusal, answer.signals);
+    rt.write_all(&text[..k])?;
+    print_signals(rt, text, &b.out, answer.signals)?;
     Ok(answer.refusal != lines::BAD_FRAME)
 }
 
 // Nothing says that the events end, and a proved loop must: it counts up to a number that no run reaches.
-fn all_events(rt: &HostRuntime, table: &mut [u8], b: &mut Buffers) -> io::Result<()> {
+fn all_events(
+    rt: &HostRuntime,
+    table: &mut [u8],
+    b: &mut Buffers,
+    text: &mut [u8; TEXT],
+) -> io::Result<()> {
     for ordinal in 1..u64::MAX {
-        if !one_event(rt, ordinal, table, b)? {
+        if !one_event(rt, ordinal, table, b, text)? {
             break;
         }
     }
@@ -143,10 +143,10 @@ fn traced(rt: &HostRuntime, table: &mut [u8]) -> io::Result<()>
     let mut b = Buffers {
         event: [0; EVENT],
         out: [0; ROOM],
-        text: [0; TEXT],
     };
-    all_events(rt, table, &mut b)?;
-    print_links(rt, table, &mut b.text)
+    let mut text = [0; TEXT];
+    all_events(rt, table, &mut b, &mut text)?;
+    print_links(rt, table, &mut text)
 }
 
 fn main(rt: HostRuntime) -> io::Result<()> {
