@@ -16,6 +16,10 @@ use Rattle.event.proofs.Fault.number.Kinds as number-kinds
 use Rattle.event.proofs.Fault.number.Reads as number
 use Rattle.event.proofs.Fault.place.Kinds as place-kinds
 use Rattle.event.proofs.Fault.place.Reads as place
+use Rattle.event.proofs.FaultPartialEq.eq.Kinds as fault-eq-kinds
+use Rattle.event.proofs.FaultPartialEq.eq.Reads as fault-eq
+use Rattle.event.proofs.UnreadPartialEq.eq.Kinds as unread-eq-kinds
+use Rattle.event.proofs.UnreadPartialEq.eq.Reads as unread-eq
 use Rattle.event.proofs.read_event.Kinds as read-event-kinds
 use Rattle.event.proofs.read_event.Reads as read-event
 
@@ -40,3 +44,10 @@ number_one κs arguments x y e f = equal
 
 pub place_one : OneAnswer place-kinds.ps place-kinds.r place.Post
 place_one κs arguments x y e f = equal
+
+-- of the derived comparisons
+pub fault_eq_one : OneAnswer fault-eq-kinds.ps fault-eq-kinds.r fault-eq.Post
+fault_eq_one κs arguments x y e f = equal
+
+pub unread_eq_one : OneAnswer unread-eq-kinds.ps unread-eq-kinds.r unread-eq.Post
+unread_eq_one κs arguments x y e f = equal

@@ -24,6 +24,8 @@ use Rattle.link.proofs.step_plain.Kinds as step-plain-kinds
 use Rattle.link.proofs.step_plain.Reads as step-plain
 use Rattle.link.proofs.field_sent.Kinds as field-sent-kinds
 use Rattle.link.proofs.field_sent.Reads as field-sent
+use Rattle.link.proofs.NotePartialEq.eq.Kinds as note-eq-kinds
+use Rattle.link.proofs.NotePartialEq.eq.Reads as note-eq
 
 pub fresh_one : OneAnswer fresh-kinds.ps fresh-kinds.r fresh.Post
 fresh_one κs arguments x y e f = equal
@@ -52,3 +54,7 @@ step_plain_one κs arguments x y e f = one_turn
 
 pub field_sent_one : OneAnswer field-sent-kinds.ps field-sent-kinds.r field-sent.Post
 field_sent_one κs arguments x y e f = equal
+
+-- of the derived comparison
+pub note_eq_one : OneAnswer note-eq-kinds.ps note-eq-kinds.r note-eq.Post
+note_eq_one κs arguments x y e f = equal

@@ -1,4 +1,5 @@
--- No second answer fits the promise of any of the calls: the answer and every octet lent are fixed by the octets handed in. Assumes nothing.
+-- No second answer fits the promise of any of the calls: the answer and every octet lent are fixed by the octets handed in. Nor does one that of what a refusal answers.
+-- Assumes nothing.
 use Rattle.unit.specs.OneAnswer.{OneReading, OneAnswer}
 use Rattle.unit.proofs.OneAnswer.{equal}
 use Rattle.step.specs.Step.{Outcome, answering}
@@ -12,6 +13,10 @@ use Rattle.sscf.proofs.sscf_fresh.Kinds as fresh-kinds
 use Rattle.sscf.proofs.sscf_fresh.Reads as fresh
 use Rattle.sscf.proofs.sscf_version.Kinds as version-kinds
 use Rattle.sscf.proofs.sscf_version.Reads as version
+use Rattle.sscf.proofs.BurstAnswerFromRefusal.from.Kinds as burst-refused-kinds
+use Rattle.sscf.proofs.BurstAnswerFromRefusal.from.Reads as burst-refused
+use Rattle.sscf.proofs.FreshAnswerFromRefusal.from.Kinds as fresh-refused-kinds
+use Rattle.sscf.proofs.FreshAnswerFromRefusal.from.Reads as fresh-refused
 
 pub step_one : OneReading step-kinds.ps step-kinds.r Outcome (λ κs arguments x e. answering x e.0.now e.1.1.0.now) step.Post
 step_one κs arguments x y e f = equal
@@ -25,3 +30,10 @@ fresh_one κs arguments x y e f = equal
 
 pub version_one : OneAnswer version-kinds.ps version-kinds.r version.Post
 version_one κs arguments x y e f = equal
+
+-- of the conversions of a refusal
+pub burst_refused_one : OneAnswer burst-refused-kinds.ps burst-refused-kinds.r burst-refused.Post
+burst_refused_one κs arguments x y e f = equal
+
+pub fresh_refused_one : OneAnswer fresh-refused-kinds.ps fresh-refused-kinds.r fresh-refused.Post
+fresh_refused_one κs arguments x y e f = equal

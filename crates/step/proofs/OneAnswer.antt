@@ -25,6 +25,8 @@ use Rattle.step.proofs.Refusal.number.Kinds as number-kinds
 use Rattle.step.proofs.Refusal.number.Reads as number
 use Rattle.step.proofs.Refusal.place.Kinds as place-kinds
 use Rattle.step.proofs.Refusal.place.Reads as place
+use Rattle.step.proofs.RefusalPartialEq.eq.Kinds as refusal-eq-kinds
+use Rattle.step.proofs.RefusalPartialEq.eq.Reads as refusal-eq
 
 pub bad_table_one : OneAnswer bad-table-kinds.ps bad-table-kinds.r bad-table.Post
 bad_table_one κs arguments x y e f = equal
@@ -34,6 +36,10 @@ number_one κs arguments x y e f = equal
 
 pub place_one : OneAnswer place-kinds.ps place-kinds.r place.Post
 place_one κs arguments x y e f = equal
+
+-- of the derived comparison
+pub refusal_eq_one : OneAnswer refusal-eq-kinds.ps refusal-eq-kinds.r refusal-eq.Post
+refusal_eq_one κs arguments x y e f = equal
 
 -- of the conversions
 pub unread_one : OneAnswer unread-kinds.ps unread-kinds.r unread.Post
