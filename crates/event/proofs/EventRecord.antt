@@ -7,13 +7,17 @@ use mathlib.Core.List.{List, [], ◌∷◌}
 use Rattle.std.proofs.Common.{Result, Ok, Err, MatchResult, IsErrAnd}
 use lib.Dec.{eqb, leb}
 use lib.ListN.{length}
-use borrow.Author.Tests.{leb-false, eqb-true, not-false}
+use borrow.Author.Tests.{leb-false, eqb-true, ne_eqb, not-false}
 use Rattle.table6.specs.RefusalCodes.{REFUSED-CODE, REFUSED-FRAME}
 use Rattle.unit.specs.declared.Arrived.{Arrived}
 use Rattle.unit.specs.Unit.{arrived}
 use Rattle.unit.specs.Checks.{Verdict, passed, refused, first}
 use Rattle.unit.proofs.Checks.{clear}
-use Rattle.table6.specs.EventCodes.{RELEASE-indication, T3-expired}
+use Rattle.table6.specs.EventCodes.{MESSAGE-FOR-TRANSMISSION, EMERGENCY, EMERGENCY-CEASES, STOP, START, RETRIEVE-BSNT, RETRIEVAL-REQUEST-AND-FSNC, FLUSH-BUFFERS, CONTINUE}
+use Rattle.table6.specs.EventCodes.{ESTABLISH-indication, ESTABLISH-confirm, RELEASE-indication, RELEASE-confirm, DATA-indication, RESYNC-indication, RECOVER-indication}
+use Rattle.table6.specs.EventCodes.{UNITDATA-indication, RETRIEVE-indication, RETRIEVE-COMPLETE-indication}
+use Rattle.table6.specs.EventCodes.{PROVING-UNSUCCESSFUL, RELEASE, OUTAGE, RECOVERED, FORCE-PROVING, FORCE-EMERGENCY, CLEAR-FORCE-MODES, CONGESTION, CONGESTION-CEASED}
+use Rattle.table6.specs.EventCodes.{T1-expired, T2-expired, T3-expired}
 use Rattle.table6.proofs.Every.{left, right}
 use Rattle.link.specs.declared.Num.{Num}
 use Rattle.link.specs.declared.Event.{Event}
@@ -100,6 +104,49 @@ pub told_misfit : (r : Result (Unit {0}) Fault) (s : Result (Unit {0}) Unread) �
 told_misfit (Ok fits) s h = ap reading h
 told_misfit (Err f) (Ok fits) h = absurd h
 told_misfit (Err f) (Err u) h = ap (λ (v : Unread). reading (Err v)) h
+
+-- none of some numbers, the last first
+abbrev pub NoneOf : List ℕ → ℕ → Type 0
+NoneOf [] c = Unit {0}
+NoneOf (k ∷ ks) c = NoneOf ks c × (c ≡ k → ⊥)
+
+pub no_more : (c p : ℕ) (n : Num) (len : ℕ) (a : Arrived) →
+    NoneOf (T3-expired ∷ T2-expired ∷ T1-expired ∷ CONGESTION-CEASED ∷ CONGESTION ∷ CLEAR-FORCE-MODES ∷ FORCE-EMERGENCY ∷ FORCE-PROVING ∷ RECOVERED ∷ OUTAGE ∷ RELEASE ∷ PROVING-UNSUCCESSFUL ∷ RETRIEVE-COMPLETE-indication ∷ RETRIEVE-indication ∷ UNITDATA-indication ∷ RECOVER-indication ∷ RESYNC-indication ∷ DATA-indication ∷ RELEASE-confirm ∷ RELEASE-indication ∷ ESTABLISH-confirm ∷ ESTABLISH-indication ∷ CONTINUE ∷ FLUSH-BUFFERS ∷ RETRIEVAL-REQUEST-AND-FSNC ∷ RETRIEVE-BSNT ∷ START ∷ STOP ∷ EMERGENCY-CEASES ∷ EMERGENCY ∷ MESSAGE-FOR-TRANSMISSION ∷ []) c → coded_at c p n len a ≡ Coded.Unknown
+unfolding coded_at
+no_more c p n len a r =
+    simp (
+      ne_eqb _ _ r.0.0.0.0.0.0.0.0.0.0.0.0.0.0.0.0.0.0.0.0.0.0.0.0.0.0.0.0.0.0.1,
+      ne_eqb _ _ r.0.0.0.0.0.0.0.0.0.0.0.0.0.0.0.0.0.0.0.0.0.0.0.0.0.0.0.0.0.1,
+      ne_eqb _ _ r.0.0.0.0.0.0.0.0.0.0.0.0.0.0.0.0.0.0.0.0.0.0.0.0.0.0.0.0.1,
+      ne_eqb _ _ r.0.0.0.0.0.0.0.0.0.0.0.0.0.0.0.0.0.0.0.0.0.0.0.0.0.0.0.1,
+      ne_eqb _ _ r.0.0.0.0.0.0.0.0.0.0.0.0.0.0.0.0.0.0.0.0.0.0.0.0.0.0.1,
+      ne_eqb _ _ r.0.0.0.0.0.0.0.0.0.0.0.0.0.0.0.0.0.0.0.0.0.0.0.0.0.1,
+      ne_eqb _ _ r.0.0.0.0.0.0.0.0.0.0.0.0.0.0.0.0.0.0.0.0.0.0.0.0.1,
+      ne_eqb _ _ r.0.0.0.0.0.0.0.0.0.0.0.0.0.0.0.0.0.0.0.0.0.0.0.1,
+      ne_eqb _ _ r.0.0.0.0.0.0.0.0.0.0.0.0.0.0.0.0.0.0.0.0.0.0.1,
+      ne_eqb _ _ r.0.0.0.0.0.0.0.0.0.0.0.0.0.0.0.0.0.0.0.0.0.1,
+      ne_eqb _ _ r.0.0.0.0.0.0.0.0.0.0.0.0.0.0.0.0.0.0.0.0.1,
+      ne_eqb _ _ r.0.0.0.0.0.0.0.0.0.0.0.0.0.0.0.0.0.0.0.1,
+      ne_eqb _ _ r.0.0.0.0.0.0.0.0.0.0.0.0.0.0.0.0.0.0.1,
+      ne_eqb _ _ r.0.0.0.0.0.0.0.0.0.0.0.0.0.0.0.0.0.1,
+      ne_eqb _ _ r.0.0.0.0.0.0.0.0.0.0.0.0.0.0.0.0.1,
+      ne_eqb _ _ r.0.0.0.0.0.0.0.0.0.0.0.0.0.0.0.1,
+      ne_eqb _ _ r.0.0.0.0.0.0.0.0.0.0.0.0.0.0.1,
+      ne_eqb _ _ r.0.0.0.0.0.0.0.0.0.0.0.0.0.1,
+      ne_eqb _ _ r.0.0.0.0.0.0.0.0.0.0.0.0.1,
+      ne_eqb _ _ r.0.0.0.0.0.0.0.0.0.0.0.1,
+      ne_eqb _ _ r.0.0.0.0.0.0.0.0.0.0.1,
+      ne_eqb _ _ r.0.0.0.0.0.0.0.0.0.1,
+      ne_eqb _ _ r.0.0.0.0.0.0.0.0.1,
+      ne_eqb _ _ r.0.0.0.0.0.0.0.1,
+      ne_eqb _ _ r.0.0.0.0.0.0.1,
+      ne_eqb _ _ r.0.0.0.0.0.1,
+      ne_eqb _ _ r.0.0.0.0.1,
+      ne_eqb _ _ r.0.0.0.1,
+      ne_eqb _ _ r.0.0.1,
+      ne_eqb _ _ r.0.1,
+      ne_eqb _ _ r.1,
+    )
 
 -- WHAT A CODE SAYS, of all codes at once
 

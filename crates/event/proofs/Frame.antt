@@ -4,9 +4,9 @@ use native.Mathlib.Omega.{arith}
 use mathlib.Core.Path.{◌≡◌, refl, sym, ap, ◌∙◌}
 use mathlib.Core.Bool.{Bool, true, false, ◌&&◌, and-true, and-false, true-and}
 use mathlib.Core.List.{List, [], ◌∷◌}
-use lib.Dec.{eqb, leb}
+use lib.Dec.{eqb, leb, ltb}
 use lib.ListN.{length, drop, length-drop}
-use borrow.Author.Tests.{leb-true, eqb-true, eqb-false, le-leb, lt-leb, eq-eqb, ne_eqb}
+use borrow.Author.Tests.{leb-true, leb-false, eqb-true, eqb-false, le-leb, lt-leb, lt-ltb, le-ltb, eq-eqb, ne_eqb}
 use Rattle.table6.proofs.Every.{left, right}
 use Rattle.link.specs.declared.Num.{Num}
 use Rattle.octet.specs.Octets.{Octets, at, two}
@@ -115,6 +115,20 @@ frame_rewritten mark r o f =
     let e3 = low_same (at r 2) (at r 3) (octet_at r o 3) in
     let e9 = sym s.nine in
     (λ i. e0 i ∷ e1 i ∷ e2 i ∷ e3 i ∷ at r 4 ∷ at r 5 ∷ at r 6 ∷ at r 7 ∷ at r 8 ∷ e9 i ∷ l.0 i ∷ l.1 i ∷ message_of r) ∙ heads r s.twelve
+
+-- THE LENGTH OF A SOUND FRAME, which is that of its message and twelve
+
+pub at_least : (a b n : ℕ) → 12 + a ≡ n → leb (12 + b) n ≡ leb b a
+at_least a b n h = by (leb b a) refl where
+  by : (x : Bool) → leb b a ≡ x → leb (12 + b) n ≡ x
+  by true e = le-leb (12 + b) n (omega (arith, leb-true b a e))
+  by false e = lt-leb (12 + b) n (omega (arith, leb-false b a e))
+
+pub some_message : (a n : ℕ) → 12 + a ≡ n → ltb 12 n ≡ leb 1 a
+some_message a n h = by (leb 1 a) refl where
+  by : (x : Bool) → leb 1 a ≡ x → ltb 12 n ≡ x
+  by true e = lt-ltb 12 n (omega (arith, leb-true 1 a e))
+  by false e = le-ltb 12 n (omega (arith, leb-false 1 a e))
 
 -- READING WHAT WAS WRITTEN
 

@@ -1,9 +1,11 @@
 -- Laws of text: digits one before the other, octets one behind the other. Assumes nothing.
 use mathlib.Core.Path.{◌≡◌, refl, sym, ap, ◌∙◌}
+use mathlib.Core.Bool.{Bool, true, false, cond}
 use mathlib.Core.List.{List, [], ◌∷◌, ◌++◌}
-use Prim.Native.Nat.{ℕ, ◌+◌, ◌*◌, ◌/◌, ◌%◌, ◌≤◌, ◌<◌}
+use Prim.Native.Nat.{ℕ, zero, suc, ◌+◌, ◌*◌, ◌/◌, ◌%◌, ◌≤◌, ◌<◌}
 use native.Mathlib.Numerals.{add-one}
 use native.Mathlib.Omega.{arith}
+use lib.Dec.{eqb}
 use lib.ListN.{length, take, drop, get_or, set, length-append, length-drop, drop_of_length-le}
 use lib.Seq.{length-take-le, take-suc}
 use Rattle.std.proofs.lemmas.List.{drop-set}
@@ -21,6 +23,17 @@ pub last_digit : (n : ℕ) (l : List ℕ) → length l ≡ 20 → before 19 (n /
 unfolding decimal
 last_digit n l h =
     ap (before 19 (n / 10)) (drop-set l 19 (48 + n % 10) (omega arith) ∙ ap (λ (t : List ℕ). (48 + n % 10) ∷ t) (drop_of_length-le l {i = 20} (omega arith)))
+
+before_length : (k n : ℕ) (t : List ℕ) → length (before k n t) ≤ k + length t
+before_length zero n t = omega arith
+before_length (suc k) n t = by (eqb n 0) (before_length k (n / 10) ((48 + n % 10) ∷ t)) where
+  by : (b : Bool) → length (before k (n / 10) ((48 + n % 10) ∷ t)) ≤ k + suc (length t) → length (cond b t (before k (n / 10) ((48 + n % 10) ∷ t))) ≤ suc k + length t
+  by true h = omega arith
+  by false h = omega arith
+
+pub decimal_length : (n : ℕ) → length (decimal n) ≤ 20
+unfolding decimal
+decimal_length n = before_length 19 (n / 10) ((48 + n % 10) ∷ [])
 
 -- HEXADECIMAL
 

@@ -265,7 +265,7 @@ slot_tells r s h = subst (SlotTold r) (ap back (sym h) ∙ back_is s) (tells r (
 high_refused : (c : ℕ) → leb c 8 ≡ false → leb 1 c && leb c 8 ≡ false
 high_refused c h = rw h (and-false (leb 1 c))
 
-abbrev StateTold : ℕ → Option State → Type 0
+abbrev pub StateTold : ℕ → Option State → Type 0
 StateTold c None = leb 1 c && leb c 8 ≡ false
 StateTold c (Some s) = (leb 1 c ≡ true) × (leb c 8 ≡ true) × (s ≡ state_at c)
 
@@ -281,7 +281,7 @@ state_told (suc (suc (suc (suc (suc (suc (suc zero))))))) = (refl, refl, refl)
 state_told (suc (suc (suc (suc (suc (suc (suc (suc zero)))))))) = (refl, refl, refl)
 state_told (suc (suc (suc (suc (suc (suc (suc (suc (suc c))))))))) = high_refused (suc (suc (suc (suc (suc (suc (suc (suc (suc c))))))))) (lt-leb (suc (suc (suc (suc (suc (suc (suc (suc (suc c))))))))) 8 (omega arith))
 
-abbrev MpsTold : ℕ → Option Mps → Type 0
+abbrev pub MpsTold : ℕ → Option Mps → Type 0
 MpsTold c None = leb c 2 ≡ false
 MpsTold c (Some m) = (leb c 2 ≡ true) × (m ≡ mps_at c)
 
@@ -291,20 +291,20 @@ mps_told (suc zero) = (refl, refl)
 mps_told (suc (suc zero)) = (refl, refl)
 mps_told (suc (suc (suc c))) = lt-leb (suc (suc (suc c))) 2 (omega arith)
 
-state_tells : (c : ℕ) (s : Option State) → s ≡ state_named c → StateTold c s
+pub state_tells : (c : ℕ) (s : Option State) → s ≡ state_named c → StateTold c s
 state_tells c s e = subst (StateTold c) (sym e) (state_told c)
 
-mps_tells : (c : ℕ) (m : Option Mps) → m ≡ mps_named c → MpsTold c m
+pub mps_tells : (c : ℕ) (m : Option Mps) → m ≡ mps_named c → MpsTold c m
 mps_tells c m e = subst (MpsTold c) (sym e) (mps_told c)
 
 not_both : (a b c : Bool) → b && c ≡ false → a && b && c ≡ false
 not_both a b c h = and_assoc a b c ∙ ap (λ (x : Bool). a && x) h ∙ and-false a
 
-no_state : (r : List ℕ) → leb 1 (at r 2) && leb (at r 2) 8 ≡ false → well_formed r ≡ false
+pub no_state : (r : List ℕ) → leb 1 (at r 2) && leb (at r 2) 8 ≡ false → well_formed r ≡ false
 unfolding well_formed
 no_state r h = rw (not_both (eqb (at r 0) 76 && eqb (at r 1) 78) (leb 1 (at r 2)) (leb (at r 2) 8) h)
 
-no_mps : (r : List ℕ) → leb (at r 4) 2 ≡ false → well_formed r ≡ false
+pub no_mps : (r : List ℕ) → leb (at r 4) 2 ≡ false → well_formed r ≡ false
 unfolding well_formed
 no_mps r h = simp (h, and-false)
 
@@ -319,7 +319,7 @@ zeros_tested a b = grind (arith, nat_tests)
 reordered : (p a b c d e f g h i j k : Bool) → p && a && f && c && g && b && i && (j && k) && d && e && h ≡ p && a && b && c && d && e && f && g && h && i && j && k
 reordered p a b c d e f g h i j k = grind (arith, nat_tests)
 
-the_rest : (r : List ℕ) → leb 1 (at r 2) ≡ true → leb (at r 2) 8 ≡ true → leb (at r 4) 2 ≡ true → rest_formed r ≡ well_formed r
+pub the_rest : (r : List ℕ) → leb 1 (at r 2) ≡ true → leb (at r 2) 8 ≡ true → leb (at r 4) 2 ≡ true → rest_formed r ≡ well_formed r
 unfolding well_formed rest_formed
 the_rest r h k m =
     rw (n1_tested (at r 14) (at r 15), zeros_tested (at r 18) (at r 19))

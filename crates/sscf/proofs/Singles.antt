@@ -9,7 +9,7 @@ use native.Mathlib.Omega.{arith}
 use lib.Dec.{eqb, ltb}
 use lib.ListN.{length, take, drop, set, length-append, length-drop, length-set, take-append-drop}
 use lib.Seq.{take_all, length-take-le, drop-drop}
-use borrow.Author.Tests.{lt-ltb, le-ltb, ltb-true, ltb-false}
+use borrow.Author.Tests.{lt-ltb, le-ltb, ltb-true, ltb-false, ne_eqb}
 use Rattle.link.specs.declared.Signal.{Signal}
 use Rattle.octet.specs.Octets.{over, put_at}
 use Rattle.octet.proofs.Over.{length_over, over_rest, behind, lent}
@@ -252,6 +252,12 @@ none_left es t o s = ap (λ (fs : List (List ℕ)). singly fs t o) (no_frame es 
 
 pub no_room_left : {t₀ es o₀ l₀ t o l : List ℕ} {n at put count : ℕ} (r : Reached t₀ es o₀ l₀ t o l n at put count) → length o - put < 4240 → singly (frames (drop at es)) t (drop put o) ≡ []
 no_room_left {es = es} {t = t} {o = o} {at = at} {put = put} r h = no_room (frames (drop at es)) t (drop put o) (omega (arith, h, length-drop put o))
+
+pub broken_there : (rest : List ℕ) → frames rest ≡ [] → 1 ≤ length rest → 2 ≡ broken_at rest
+broken_there rest f h = rw (ne_eqb (length rest) 0 (λ e. omega (arith, h, e)), by (sound rest) refl) where
+  by : (b : Bool) → sound rest ≡ b → b ≡ false
+  by true s = absurd (omega (arith, ap length (sym f ∙ a_frame rest s)))
+  by false s = refl
 
 pub sound_there : (rest : List ℕ) → sound rest ≡ true → 0 ≡ broken_at rest
 sound_there rest h = rw (h, or-true (eqb (length rest) 0))
