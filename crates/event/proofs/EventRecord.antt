@@ -2,15 +2,15 @@
 use Prim.Native.Nat.{ℕ, ◌≤◌}
 use native.Mathlib.Omega.{arith}
 use mathlib.Core.Path.{◌≡◌, refl, sym, ap, subst, ◌∙◌}
-use mathlib.Core.Bool.{Bool, true, false, cond, not, ◌&&◌, true≢false}
+use mathlib.Core.Bool.{Bool, true, false, cond, not, ◌&&◌, ◌||◌, true≢false}
 use mathlib.Core.List.{List, [], ◌∷◌}
 use Rattle.std.proofs.Common.{Result, Ok, Err, MatchResult, IsErrAnd}
 use lib.Dec.{eqb, leb}
 use lib.ListN.{length}
-use borrow.Author.Tests.{leb-false, eqb-true, ne_eqb, not-false}
+use borrow.Author.Tests.{leb-false, eqb-true, ne_eqb, not-false, not-true}
 use Rattle.table6.specs.RefusalCodes.{REFUSED-CODE, REFUSED-FRAME}
 use Rattle.unit.specs.declared.Arrived.{Arrived}
-use Rattle.unit.specs.Unit.{arrived}
+use Rattle.unit.specs.Unit.{arrived, none_or_status}
 use Rattle.unit.specs.Checks.{Verdict, passed, refused, first}
 use Rattle.unit.proofs.Checks.{clear}
 use Rattle.table6.specs.EventCodes.{MESSAGE-FOR-TRANSMISSION, EMERGENCY, EMERGENCY-CEASES, STOP, START, RETRIEVE-BSNT, RETRIEVAL-REQUEST-AND-FSNC, FLUSH-BUFFERS, CONTINUE}
@@ -27,8 +27,10 @@ use Rattle.link.specs.Stored.{bare_view, view_of, number_in}
 use Rattle.event.specs.declared.Unread.{Unread}
 use Rattle.event.specs.declared.Fault.{Fault}
 use Rattle.event.specs.declared.Look.{Look}
+use Rattle.octet.specs.Octets.{at}
+use Rattle.octet.proofs.Branches.{neither}
 use Rattle.event.specs.Frame.{EV, length_at, link_at, number_at, message_of, code_at, param_at, written}
-use Rattle.event.specs.Fields.{is_zero, is_source, fields, field_checks}
+use Rattle.event.specs.Fields.{is_zero, is_source, fields, not_carried, out_of_range, field_checks}
 use Rattle.event.specs.EventRecord.{framed, events, Coded, among, Each, coded_at, coded_in, said, event_of, unknown, fields_in, Refused, ◌at_place◌}
 use Rattle.event.specs.EventRecord.{reading, fitting, saying, fields_of, reading_of, Holds, Carried, carrying, carried, Rewritten, Reread}
 use Rattle.event.specs.Look.{Seen, faulty}
@@ -77,6 +79,103 @@ pub reading_tells : (e : List ℕ) (r : Result (Unit {0}) Unread) → reading r 
 unfolding reading_of fields_of
 reading_tells e r h =
     subst (ToldOf e) (ap back (sym h) ∙ back_is r) (tells (framed e) (coded_in e) (first (field_checks (code_at e) (fields_in e))))
+
+-- WHAT A LOOK AT A CODE TELLS
+
+by_look : (e : List ℕ) (b : Bool) → unknown (coded_in e) ≡ false → (b ≡ true → first (field_checks (code_at e) (fields_in e)) ≡ passed) → Seen e (cond b Look.Fits Look.Closer)
+by_look e true h p = (h, p refl)
+by_look e false h p = h
+
+-- the code is known
+abbrev Known : List ℕ → ℕ → Type 0
+Known e c = unknown (coded_at c (param_at e) (number_at e) (length_at e) (arrived (message_of e))) ≡ false
+
+-- by a test which, where it holds, has all fields pass
+seen_at : (e : List ℕ) (c : ℕ) (b : Bool) {r : Look} → at e 4 ≡ c → Known e c → (b ≡ true → first (field_checks c (fields_in e)) ≡ passed) → r ≡ cond b Look.Fits Look.Closer → Seen e r
+seen_at e c b k u p h = subst (Seen e) (sym h) (by_look e b (rw k u) (λ t. rw k (p t)))
+
+-- three tests that are left of the six, and those three asked in another order
+abbrev three_left : Bool → Bool → Bool → Fault → Fault → Fault → Verdict Fault
+three_left x y z f g h = cond x (refused f) (cond y (refused g) (cond z (refused h) passed))
+
+none_left : (x y z : Bool) (f g h : Fault) → x ≡ false → y ≡ false → z ≡ false → three_left x y z f g h ≡ passed
+none_left x y z f g h p q r = rw (p, q, r)
+
+none_of : (x y z : Bool) → not (x || y || z) ≡ true → (x ≡ false) × (y ≡ false) × (z ≡ false)
+none_of x y z h =
+    let g = neither (x || y) z (not-true _ h) in
+    let f = neither x y g.0 in
+    (f.0, f.1, g.1)
+
+pub bare_at : (e : List ℕ) (c : ℕ) {r : Look} → at e 4 ≡ c → Known e c →
+    first (field_checks c (fields_in e)) ≡ three_left (leb 1 (param_at e)) (not (is_zero (number_at e))) (leb 1 (length_at e)) (Fault.NotCarried 5) (Fault.NotCarried 6) (Fault.NotCarried 10) →
+    r ≡ cond (not (leb 1 (length_at e) || not (is_zero (number_at e)) || leb 1 (param_at e))) Look.Fits Look.Closer → Seen e r
+bare_at e c k u f h =
+    let x = leb 1 (param_at e) in
+    let y = not (is_zero (number_at e)) in
+    let z = leb 1 (length_at e) in
+    seen_at e c (not (z || y || x)) k u (λ t. let g = none_of z y x t in f ∙ none_left x y z (Fault.NotCarried 5) (Fault.NotCarried 6) (Fault.NotCarried 10) g.2 g.1 g.0) h
+
+pub established_at : (e : List ℕ) (c : ℕ) {r : Look} → at e 4 ≡ c → Known e c →
+    first (field_checks c (fields_in e)) ≡ three_left (not (is_zero (number_at e))) (leb 1 (length_at e)) (not (none_or_status (param_at e))) (Fault.NotCarried 6) (Fault.NotCarried 10) (Fault.OutOfRange 5) →
+    r ≡ cond (not (leb 1 (length_at e) || not (is_zero (number_at e)) || not (none_or_status (param_at e)))) Look.Fits Look.Closer → Seen e r
+established_at e c k u f h =
+    let x = not (is_zero (number_at e)) in
+    let y = leb 1 (length_at e) in
+    let z = not (none_or_status (param_at e)) in
+    seen_at e c (not (y || x || z)) k u (λ t. let g = none_of y x z t in f ∙ none_left x y z (Fault.NotCarried 6) (Fault.NotCarried 10) (Fault.OutOfRange 5) g.1 g.0 g.2) h
+
+-- no number is the far user
+far_user : (n : Num) → not (is_zero n) ≡ false → not (is_source n) ≡ false
+far_user n h =
+    let w = not-false (is_zero n) h in
+    let c = eqb-true n.c 0 (right (eqb n.a 0 && eqb n.b 0) (eqb n.c 0) w) in
+    rw (left (eqb n.a 0 && eqb n.b 0) (eqb n.c 0) w, c)
+
+pub release_at : (e : List ℕ) {r : Look} → at e 4 ≡ RELEASE-indication → r ≡ cond (not (leb 1 (length_at e) || not (is_zero (number_at e)) || not (none_or_status (param_at e)))) Look.Fits Look.Closer → Seen e r
+unfolding coded_at not_carried out_of_range
+release_at e k h =
+    let x = leb 1 (length_at e) in
+    let y = not (is_zero (number_at e)) in
+    let z = not (none_or_status (param_at e)) in
+    seen_at e RELEASE-indication (not (x || y || z)) k refl
+    (λ t. let g = none_of x y z t in none_left x z (not (is_source (number_at e))) (Fault.NotCarried 10) (Fault.OutOfRange 5) (Fault.OutOfRange 6) g.0 g.2 (far_user (number_at e) g.1)) h
+
+pub congestion_at : (e : List ℕ) {r : Look} → at e 4 ≡ CONGESTION → r ≡ cond (not (leb 1 (length_at e) || not (is_zero (number_at e)) || not (leb (param_at e) 3))) Look.Fits Look.Closer → Seen e r
+unfolding coded_at not_carried out_of_range
+congestion_at e k h =
+    let x = leb 1 (length_at e) in
+    let y = not (is_zero (number_at e)) in
+    let z = not (leb (param_at e) 3) in
+    seen_at e CONGESTION (not (x || y || z)) k refl (λ t. let g = none_of x y z t in none_left y x z (Fault.NotCarried 6) (Fault.NotCarried 10) (Fault.OutOfRange 5) g.1 g.0 g.2) h
+
+pub message_at : (e : List ℕ) {r : Look} → at e 4 ≡ MESSAGE-FOR-TRANSMISSION → r ≡ cond (not (not (is_zero (number_at e)) || leb 1 (param_at e) || not (leb 5 (length_at e)))) Look.Fits Look.Closer → Seen e r
+unfolding coded_at not_carried out_of_range
+message_at e k h =
+    let x = leb 1 (param_at e) in
+    let y = not (is_zero (number_at e)) in
+    let z = not (leb 5 (length_at e)) in
+    seen_at e MESSAGE-FOR-TRANSMISSION (not (y || x || z)) k refl (λ t. let g = none_of y x z t in none_left x y z (Fault.NotCarried 5) (Fault.NotCarried 6) (Fault.Short 10) g.1 g.0 g.2) h
+
+-- two tests alone
+pub retrieval_at : (e : List ℕ) {r : Look} → at e 4 ≡ RETRIEVAL-REQUEST-AND-FSNC → r ≡ cond (not (leb 1 (length_at e) || leb 1 (param_at e))) Look.Fits Look.Closer → Seen e r
+unfolding coded_at not_carried out_of_range
+retrieval_at e k h =
+    let x = leb 1 (param_at e) in
+    let y = leb 1 (length_at e) in
+    seen_at e RETRIEVAL-REQUEST-AND-FSNC (not (y || x)) k refl (λ t. let g = neither y x (not-true (y || x) t) in rw (g.0, g.1)) h
+
+pub unnumbered_at : (e : List ℕ) (c : ℕ) {r : Look} → at e 4 ≡ c → Known e c →
+    first (field_checks c (fields_in e)) ≡ cond (leb 1 (param_at e)) (refused (Fault.NotCarried 5)) (cond (not (is_zero (number_at e))) (refused (Fault.NotCarried 6)) passed) →
+    r ≡ cond (not (not (is_zero (number_at e)) || leb 1 (param_at e))) Look.Fits Look.Closer → Seen e r
+unnumbered_at e c k u f h =
+    let x = leb 1 (param_at e) in
+    let y = not (is_zero (number_at e)) in
+    seen_at e c (not (y || x)) k u (λ t. let g = neither y x (not-true (y || x) t) in f ∙ rw (g.0, g.1)) h
+
+pub data_at : (e : List ℕ) {r : Look} → at e 4 ≡ DATA-indication → r ≡ cond (not (leb 1 (param_at e))) Look.Fits Look.Closer → Seen e r
+unfolding coded_at not_carried out_of_range
+data_at e k h = seen_at e DATA-indication (not (leb 1 (param_at e))) k refl (λ t. rw (not-true (leb 1 (param_at e)) t)) h
 
 -- WHAT A LOOK AT THE CODE AND AT THE FIELDS COMES TO
 

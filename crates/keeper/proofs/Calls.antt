@@ -1,19 +1,19 @@
 -- What the calls come to, by their checks: refused by one, or past all of them. Assumes nothing.
-use Prim.Native.Nat.{ℕ, zero, suc, ◌+◌, ◌*◌, ◌/◌, ◌<◌, ◌≤◌}
+use Prim.Native.Nat.{ℕ, zero, suc, ◌+◌, ◌-◌, ◌*◌, ◌/◌, ◌<◌, ◌≤◌}
 use native.Mathlib.Omega.{arith}
 use mathlib.Core.Path.{◌≡◌, refl, sym, ap}
-use mathlib.Core.Bool.{false, not, ◌&&◌, ◌||◌}
+use mathlib.Core.Bool.{Bool, true, false, not, ◌&&◌, ◌||◌}
 use mathlib.Core.List.{List, [], ◌∷◌}
 use Rattle.std.specs.List.{list_any}
 use Rattle.std.proofs.lemmas.Bool.Decides.{nat_tests}
 use lib.Dec.{eqb, ltb, leb}
 use lib.ListN.{length, get_or}
-use borrow.Author.Tests.{eqb-true, eqb-false, ltb-false, leb-false, not-false}
+use borrow.Author.Tests.{eqb-true, eqb-false, ltb-false, leb-true, leb-false, le-leb, lt-leb, not-false}
 use Rattle.unit.specs.Checks.{Verdict, passed, first, number_of}
 use Rattle.unit.proofs.Checks.{clear, none_refuses}
 use Rattle.octet.proofs.Branches.{neither}
 use Rattle.keeper.specs.declared.DueAnswer.{DueAnswer}
-use Rattle.keeper.specs.Deadlines.{last_time, with_time, order_of, followed}
+use Rattle.keeper.specs.Deadlines.{idle, last_time, with_time, order_of, followed}
 use Rattle.keeper.specs.Calls.{bad_lists, bad_periods, no_order, past_all, own_period, due_checks, order_checks, keeping, kept, fresh_deadlines, fresh_call, order_call, Names, DueCall}
 
 -- GOOD LISTS
@@ -44,6 +44,13 @@ pub period_some : (p : List ℕ) (i : ℕ) → bad_periods p ≡ false → i < l
 period_some [] i b h = absurd (omega arith)
 period_some (x ∷ p) zero b h = let e = neither (ltb x 1 || ltb 60000 x) (bad_periods p) b in ltb-false x 1 (neither (ltb x 1) (ltb 60000 x) e.0).0
 period_some (x ∷ p) (suc i) b h = period_some p i (neither (ltb x 1 || ltb 60000 x) (bad_periods p) b).1 (omega arith)
+
+-- DEADLINES THAT FIT: by what is left up to all ones
+pub by_the_rest : (time x : ℕ) → time ≤ idle → leb (idle - time) x ≡ leb idle (time + x)
+by_the_rest time x h = by (leb idle (time + x)) refl where
+  by : (b : Bool) → leb idle (time + x) ≡ b → leb (idle - time) x ≡ b
+  by true e = le-leb (idle - time) x (omega (arith, leb-true idle (time + x) e))
+  by false e = lt-leb (idle - time) x (omega (arith, leb-false idle (time + x) e))
 
 -- past all checks of an order
 pub record Followed (d p : List ℕ) (link c time : ℕ) : Type 0 where

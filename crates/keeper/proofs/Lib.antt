@@ -1,6 +1,7 @@
 pub mod Places
 pub mod Search
 pub mod Calls
+pub mod Orders
 pub mod Lists
 pub mod Due
 pub mod OneAnswer

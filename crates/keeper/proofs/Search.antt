@@ -7,6 +7,7 @@ use mathlib.Core.Logic.{◌⊎◌, inl, inr, ⊎_elim}
 use mathlib.Core.List.{List}
 use lib.Dec.{ltb}
 use lib.ListN.{get_or}
+use borrow.Author.Count.{below_more}
 use borrow.Author.Tests.{ltb-true, ltb-false, lt-ltb, le-ltb}
 use Rattle.std.proofs.lemmas.Bool.{cases_lt}
 use Rattle.keeper.specs.Deadlines.{idle}
@@ -22,6 +23,12 @@ Searched d bound m = NoneBelow d m bound ⊎ ((place : ℕ) × FirstBelow d m bo
 
 more : (P : ℕ → Type 0) (m : ℕ) → ((j : ℕ) → j < m → P j) → P m → (j : ℕ) → j < suc m → P j
 more P m f x j h = ⊎_elim (λ t. f j t) (λ t. let e : m ≡ j = omega arith in subst P e x) (cases_lt j m)
+
+-- what holds below i and of the next three holds below i + 3
+pub three_more : (P : ℕ → Type 0) (i : ℕ) → ((j : ℕ) → j < i → P j) → P i → P (i + 1) → P (i + 2) → (j : ℕ) → j < i + 3 → P j
+three_more P i f a b c j h =
+    let e : i + 2 ≡ i + 1 + 1 = omega arith in
+    below_more P (i + 1 + 1) (below_more P (i + 1) (below_more P i f a) b) (subst P e c) j (omega arith)
 
 one_more : (d : List ℕ) (bound m : ℕ) → Searched d bound m → Searched d bound (suc m)
 one_more d bound m (inl none) =

@@ -1,5 +1,5 @@
 -- Laws of text: digits one before the other, octets one behind the other. Assumes nothing.
-use mathlib.Core.Path.{◌≡◌, refl, sym, ap, ◌∙◌}
+use mathlib.Core.Path.{◌≡◌, refl, sym, ap, subst, ◌∙◌}
 use mathlib.Core.Bool.{Bool, true, false, cond}
 use mathlib.Core.List.{List, [], ◌∷◌, ◌++◌}
 use Prim.Native.Nat.{ℕ, zero, suc, ◌+◌, ◌*◌, ◌/◌, ◌%◌, ◌≤◌, ◌<◌}
@@ -64,6 +64,20 @@ pub message_fits : (r m : List ℕ) → m ≡ message_of r → 12 ≤ length r �
 message_fits r m e h = omega (arith, ap length e, length-drop 12 r)
 
 -- ONE BEHIND THE OTHER
+
+pub added_then : (x y t t₁ t₂ : List ℕ) (a b c : ℕ) → a ≤ length t → Added x t a b t₁ → Added y t₁ b c t₂ → Added (x ++ y) t a c t₂
+added_then x y t t₁ t₂ a b c h p q =
+    record {
+      answer = q.answer ∙ omega (arith, p.answer, length-append x y);
+      written =
+          q.written
+          ∙ ap (λ (l : List ℕ). put_at l b y) p.written
+          ∙ ap (λ (k : ℕ). put_at (put_at t a x) k y) p.answer
+          ∙ put_behind t x y a h;
+    }
+
+pub added_as : {x y t t' : List ℕ} {a r : ℕ} → x ≡ y → Added x t a r t' → Added y t a r t'
+added_as {t = t} {t' = t'} {a = a} {r = r} e p = subst (λ (z : List ℕ). Added z t a r t') e p
 
 pub adds_nothing : (l : Line) → l.at ≤ length l.text.now → Adds [] l l
 adds_nothing l h =
